@@ -1,0 +1,217 @@
+-- Laws of lists under a Boolean test: of the elements that pass, of the list without the first of them, and of the list with some changed.
+-- Assumes nothing.
+use mathlib.Core.Path.{_≡_, refl, _∙_}
+use mathlib.Core.Bool.{Bool, true, false, _&&_, not, and-assoc}
+use mathlib.Core.List.{List, [], _∷_, _++_, map}
+use Prim.Native.Nat.{suc, _+_, _<_, _≤_}
+use native.Mathlib.Omega.{arith}
+use borrow.Author.Tests.{not-true}
+use lib.ListN.{length, length-append}
+use Rattle.transit.specs.Lists.{select, tally, without, changeFirst, changeEach, every}
+use Rattle.transit.specs.Laws.Tests.{by-test, both-left, both-right}
+
+module _ {A : Type 0} where
+  -- A test that always passes, passes at every element.
+  pub every-always : (p : A → Bool) → ((x : A) → p x ≡ true) → (l : List A) → every p l ≡ true
+  every-always p always [] = refl
+  every-always p always (x ∷ l) = simp (always x, every-always p always l)
+
+  -- A test that passes where two others do, passes at every element if they do.
+  pub every-both : (p q r : A → Bool) → ((x : A) → p x ≡ true → q x ≡ true → r x ≡ true) → (l : List A) → every p l ≡ true → every q l ≡ true → every r l ≡ true
+  every-both p q r joined [] ps qs = refl
+  every-both p q r joined (x ∷ l) ps qs =
+      simp (
+        joined x (both-left (p x) _ ps) (both-left (q x) _ qs),
+        every-both p q r joined l (both-right (p x) _ ps) (both-right (q x) _ qs),
+      )
+
+  -- A wider test passes at every element if the narrower does.
+  pub every-wider : (p q : A → Bool) → ((x : A) → p x ≡ true → q x ≡ true) → (l : List A) → every p l ≡ true → every q l ≡ true
+  every-wider p q wider l all = every-both p p q (λ x h _. wider x h) l all all
+
+  -- A test at every element of two lists joined.
+  pub every-append : (p : A → Bool) (l m : List A) → every p (l ++ m) ≡ (every p l && every p m)
+  every-append p [] m = refl
+  every-append p (x ∷ l) m = simp (every-append p l m, and-assoc)
+
+  -- A test at every element after a change.
+  pub every-map : {B : Type 0} (p : B → Bool) (f : A → B) (l : List A) → every p (map f l) ≡ every (λ x. p (f x)) l
+  every-map p f [] = refl
+  every-map p f (x ∷ l) = simp (every-map p f l)
+
+  -- What passes at every element passes at those that are selected.
+  pub every-select : (p q : A → Bool) (l : List A) → every p l ≡ true → every p (select q l) ≡ true
+  every-select p q [] all = refl
+  every-select p q (x ∷ l) all =
+      let rest : every p (select q l) ≡ true = every-select p q l (both-right (p x) _ all) in
+      by-test (q x) (λ e. simp (e, both-left (p x) _ all, rest)) (λ e. simp (e, rest))
+
+  -- What passes at every element passes where one is left out.
+  pub every-without : (p q : A → Bool) (l : List A) → every p l ≡ true → every p (without q l) ≡ true
+  every-without p q [] all = refl
+  every-without p q (x ∷ l) all =
+      by-test (q x)
+      (λ e. simp e (both-right (p x) _ all))
+      (λ e. simp (e, both-left (p x) _ all, every-without p q l (both-right (p x) _ all)))
+
+  -- A change of each that passes q leads from p at every element to r at every element, if it does at those that it changes and at those that it does not.
+  pub every-changeEach : (p q r : A → Bool) (f : A → A) → ((x : A) → p x ≡ true → q x ≡ true → r (f x) ≡ true)
+      → ((x : A) → p x ≡ true → q x ≡ false → r x ≡ true) → (l : List A) → every p l ≡ true → every r (map (changeEach q f) l) ≡ true
+  every-changeEach p q r f changed kept l all =
+      every-map r (changeEach q f) l
+      ∙ every-wider p (λ x. r (changeEach q f x)) (λ x h. by-test (q x) (λ e. simp e (changed x h e)) (λ e. simp e (kept x h e))) l all
+
+  -- What a change of one that passes q keeps true, passes at every element after it.
+  pub every-changeFirst : (p q : A → Bool) (f : A → A) → ((x : A) → p x ≡ true → q x ≡ true → p (f x) ≡ true)
+      → (l : List A) → every p l ≡ true → every p (changeFirst q f l) ≡ true
+  every-changeFirst p q f changed [] all = refl
+  every-changeFirst p q f changed (x ∷ l) all =
+      by-test (q x)
+      (λ e. simp (e, changed x (both-left (p x) _ all) e) (both-right (p x) _ all))
+      (λ e. simp (e, both-left (p x) _ all, every-changeFirst p q f changed l (both-right (p x) _ all)))
+
+  -- Every selected element passes.
+  pub every-selected : (p : A → Bool) (l : List A) → every p (select p l) ≡ true
+  every-selected p [] = refl
+  every-selected p (x ∷ l) = by-test (p x) (λ e. simp (e, every-selected p l)) (λ e. simp (e, every-selected p l))
+
+  -- Where all pass, all are selected.
+  pub select-all : (p : A → Bool) (l : List A) → every p l ≡ true → select p l ≡ l
+  select-all p [] all = refl
+  select-all p (x ∷ l) all = simp (both-left (p x) _ all, select-all p l (both-right (p x) _ all))
+
+  -- Where none passes, none is selected.
+  pub select-none : (p : A → Bool) (l : List A) → every (λ x. not (p x)) l ≡ true → select p l ≡ []
+  select-none p [] none = refl
+  select-none p (x ∷ l) none = simp (not-true (p x) (both-left _ _ none), select-none p l (both-right (not (p x)) _ none))
+
+  -- What passes of two lists joined.
+  pub select-append : (p : A → Bool) (l m : List A) → select p (l ++ m) ≡ select p l ++ select p m
+  select-append p [] m = refl
+  select-append p (x ∷ l) m = by-test (p x) (λ e. simp (e, select-append p l m)) (λ e. simp (e, select-append p l m))
+
+  -- How many pass of two lists joined.
+  pub tally-append : (p : A → Bool) (l m : List A) → tally p (l ++ m) ≡ tally p l + tally p m
+  tally-append p l m = rw (select-append, length-append)
+
+  -- No more pass than there are.
+  pub tally-bounded : (p : A → Bool) (l : List A) → tally p l ≤ length l
+  tally-bounded p [] = omega arith
+  tally-bounded p (x ∷ l) = let rest = tally-bounded p l in by-test (p x) (λ e. simp e (omega arith)) (λ e. simp e (omega arith))
+
+  -- What passes one test and then another passes both.
+  pub select-select : (p q : A → Bool) (l : List A) → select q (select p l) ≡ select (λ x. p x && q x) l
+  select-select p q [] = refl
+  select-select p q (x ∷ l) = by-test (p x) (λ e. simp (e, select-select p q l)) (λ e. simp (e, select-select p q l))
+
+  -- A change that a test does not see leaves alone which elements pass.
+  pub select-map : (p : A → Bool) (f : A → A) → ((x : A) → p (f x) ≡ p x) → (l : List A) → select p (map f l) ≡ map f (select p l)
+  select-map p f kept [] = refl
+  select-map p f kept (x ∷ l) = by-test (p x) (λ e. simp (kept x, e, select-map p f kept l)) (λ e. simp (kept x, e, select-map p f kept l))
+
+  -- Leaving out the first that passes q leaves alone what passes p, where nothing passes both.
+  pub without-other : (p q : A → Bool) → ((x : A) → q x ≡ true → p x ≡ false) → (l : List A) → select p (without q l) ≡ select p l
+  without-other p q apart [] = refl
+  without-other p q apart (x ∷ l) = by-test (q x) (λ e. simp (e, apart x e)) (λ e. simp (e, without-other p q apart l))
+
+  -- Where q is the narrower test, it is left out of what passes p.
+  pub without-same : (p q : A → Bool) → ((x : A) → q x ≡ true → p x ≡ true) → (l : List A) → select p (without q l) ≡ without q (select p l)
+  without-same p q within [] = refl
+  without-same p q within (x ∷ l) =
+      by-test (q x)
+      (λ e. simp (e, within x e))
+      (λ e. by-test (p x) (λ h. simp (e, h, without-same p q within l)) (λ h. simp (e, h, without-same p q within l)))
+
+  -- Without the first that passes, what passes is the rest of what passed.
+  pub without-head : (q : A → Bool) (l : List A) (x : A) (xs : List A) → select q l ≡ x ∷ xs → select q (without q l) ≡ xs
+  without-head q [] x xs heads = cc
+  without-head q (y ∷ l) x xs heads =
+      by-test (q y) (λ e. let h = rw e at heads in rw e (cc)) (λ e. simp (e, without-head q l x xs (rw e at heads)))
+
+  -- Where none passes, none is left out.
+  pub without-none : (q : A → Bool) (l : List A) → select q l ≡ [] → without q l ≡ l
+  without-none q [] none = refl
+  without-none q (x ∷ l) none = by-test (q x) (λ e. cc (rw e at none)) (λ e. simp (e, without-none q l (rw e at none)))
+
+  -- Where something passes, the list without the first that does is one shorter.
+  pub length-without : (q : A → Bool) (l : List A) → 0 < tally q l → suc (length (without q l)) ≡ length l
+  length-without q [] some = omega arith
+  length-without q (x ∷ l) some = by-test (q x) (λ e. simp e) (λ e. simp (e, length-without q l (rw e at some)))
+
+  -- A change of the first that passes keeps the length.
+  pub length-changeFirst : (q : A → Bool) (f : A → A) (l : List A) → length (changeFirst q f l) ≡ length l
+  length-changeFirst q f [] = refl
+  length-changeFirst q f (x ∷ l) = by-test (q x) (λ e. simp e) (λ e. simp (e, length-changeFirst q f l))
+
+  -- What a change keeps of an element, the change of those that pass keeps.
+  pub changeEach-keeps : {B : Type 0} (g : A → B) (q : A → Bool) (f : A → A) → ((x : A) → g (f x) ≡ g x) → (x : A) → g (changeEach q f x) ≡ g x
+  changeEach-keeps g q f kept x = by-test (q x) (λ e. simp (e, kept x)) (λ e. simp e)
+
+  -- What a change keeps of each element, it keeps of all that pass a test that does not see it.
+  pub map-keeps : {B : Type 0} (g : A → B) (p : A → Bool) (f : A → A) → ((x : A) → p (f x) ≡ p x) → ((x : A) → g (f x) ≡ g x)
+      → (l : List A) → map g (select p (map f l)) ≡ map g (select p l)
+  map-keeps g p f kept same [] = refl
+  map-keeps g p f kept same (x ∷ l) =
+      by-test (p x) (λ e. simp (kept x, e, same x, map-keeps g p f kept same l)) (λ e. simp (kept x, e, map-keeps g p f kept same l))
+
+  -- What a change does to what is read of each element, it does to what is read of all that pass a test that does not see it.
+  pub map-follows : {B : Type 0} (g : A → B) (h : B → B) (p : A → Bool) (f : A → A) → ((x : A) → p (f x) ≡ p x) → ((x : A) → p x ≡ true → g (f x) ≡ h (g x))
+      → (l : List A) → map g (select p (map f l)) ≡ map h (map g (select p l))
+  map-follows g h p f kept follows [] = refl
+  map-follows g h p f kept follows (x ∷ l) =
+      by-test (p x) (λ e. simp (kept x, e, follows x e, map-follows g h p f kept follows l)) (λ e. simp (kept x, e, map-follows g h p f kept follows l))
+
+  -- What a change keeps of each element, a change of the first that passes keeps of all that pass a test that does not see it.
+  pub changeFirst-keeps : {B : Type 0} (g : A → B) (p q : A → Bool) (f : A → A) → ((x : A) → p (f x) ≡ p x) → ((x : A) → g (f x) ≡ g x)
+      → (l : List A) → map g (select p (changeFirst q f l)) ≡ map g (select p l)
+  changeFirst-keeps g p q f kept same [] = refl
+  changeFirst-keeps g p q f kept same (x ∷ l) =
+      by-test (q x)
+      (λ e. by-test (p x) (λ h. simp (e, kept x, h, same x)) (λ h. simp (e, kept x, h)))
+      (λ e. by-test (p x) (λ h. simp (e, h, changeFirst-keeps g p q f kept same l)) (λ h. simp (e, h, changeFirst-keeps g p q f kept same l)))
+
+  -- Where q is the narrower test, the first that passes it is changed in what passes p.
+  pub changeFirst-same : (p q : A → Bool) (f : A → A) → ((x : A) → p (f x) ≡ p x) → ((x : A) → q x ≡ true → p x ≡ true)
+      → (l : List A) → select p (changeFirst q f l) ≡ changeFirst q f (select p l)
+  changeFirst-same p q f kept within [] = refl
+  changeFirst-same p q f kept within (x ∷ l) =
+      by-test (q x)
+      (λ e. simp (e, kept x, within x e))
+      (λ e. by-test (p x) (λ h. simp (e, h, changeFirst-same p q f kept within l)) (λ h. simp (e, h, changeFirst-same p q f kept within l)))
+
+  -- Changing the first that passes q leaves alone what passes p, where none of that passes q.
+  pub changeFirst-none : (p q : A → Bool) (f : A → A) → ((x : A) → p (f x) ≡ p x)
+      → (l : List A) → every (λ x. not (q x)) (select p l) ≡ true → select p (changeFirst q f l) ≡ select p l
+  changeFirst-none p q f kept [] none = refl
+  changeFirst-none p q f kept (x ∷ l) none =
+      by-test (p x)
+      (λ e.
+      let h = rw e at none in
+      simp (e, not-true (q x) (both-left _ _ h), changeFirst-none p q f kept l (both-right (not (q x)) _ h)))
+      (λ e. by-test (q x) (λ h. simp (h, kept x, e)) (λ h. simp (h, e, changeFirst-none p q f kept l (rw e at none))))
+
+  -- Changing each that passes q leaves alone what passes p, where none of that passes q.
+  pub changeEach-none : (p q : A → Bool) (f : A → A) → ((x : A) → p (f x) ≡ p x)
+      → (l : List A) → every (λ x. not (q x)) (select p l) ≡ true → select p (map (changeEach q f) l) ≡ select p l
+  changeEach-none p q f kept [] none = refl
+  changeEach-none p q f kept (x ∷ l) none =
+      by-test (p x)
+      (λ e.
+      let h = rw e at none in
+      simp (changeEach-keeps p q f kept x, e, not-true (q x) (both-left _ _ h), changeEach-none p q f kept l (both-right (not (q x)) _ h)))
+      (λ e. simp (changeEach-keeps p q f kept x, e, changeEach-none p q f kept l (rw e at none)))
+
+  -- Where nothing passes both, none of what passes p passes q.
+  pub none-of-other : (p q : A → Bool) → ((x : A) → q x ≡ true → p x ≡ false) → (l : List A) → every (λ x. not (q x)) (select p l) ≡ true
+  none-of-other p q apart l =
+      every-wider p (λ x. not (q x)) (λ x h. by-test (q x) (λ e. rw e (cc (apart x e))) (λ e. rw e)) (select p l) (every-selected p l)
+
+  -- Changing the first that passes q leaves alone what passes p, where nothing passes both.
+  pub changeFirst-other : (p q : A → Bool) (f : A → A) → ((x : A) → p (f x) ≡ p x) → ((x : A) → q x ≡ true → p x ≡ false)
+      → (l : List A) → select p (changeFirst q f l) ≡ select p l
+  changeFirst-other p q f kept apart l = changeFirst-none p q f kept l (none-of-other p q apart l)
+
+  -- Changing each that passes q leaves alone what passes p, where nothing passes both.
+  pub changeEach-other : (p q : A → Bool) (f : A → A) → ((x : A) → p (f x) ≡ p x) → ((x : A) → q x ≡ true → p x ≡ false)
+      → (l : List A) → select p (map (changeEach q f) l) ≡ select p l
+  changeEach-other p q f kept apart l = changeEach-none p q f kept l (none-of-other p q apart l)

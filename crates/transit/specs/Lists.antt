@@ -1,0 +1,50 @@
+-- Lists under a Boolean test: the elements that pass, how many, the first of them, and the list without it or with it changed.
+-- Assumes nothing.
+use mathlib.Core.Bool.{Bool, true, cond, _&&_}
+use mathlib.Core.List.{List, [], _∷_, _++_}
+use Prim.Native.Nat.{ℕ, zero, suc}
+use lib.Dec.{leb}
+use lib.ListN.{length, take, drop}
+
+module _ {A : Type 0} where
+  -- the elements that pass, in order
+  abbrev pub select : (A → Bool) → List A → List A
+  select p [] = []
+  select p (x ∷ xs) = cond (p x) (x ∷ select p xs) (select p xs)
+
+  -- how many pass
+  abbrev pub tally : (A → Bool) → List A → ℕ
+  tally p l = length (select p l)
+
+  -- where the first that passes stands, and the length where none does
+  abbrev pub indexOf : (A → Bool) → List A → ℕ
+  indexOf p [] = zero
+  indexOf p (x ∷ xs) = cond (p x) zero (suc (indexOf p xs))
+
+  -- the list without the first that passes
+  abbrev pub without : (A → Bool) → List A → List A
+  without p [] = []
+  without p (x ∷ xs) = cond (p x) xs (x ∷ without p xs)
+
+  -- the list with the first that passes changed by f
+  abbrev pub changeFirst : (A → Bool) → (A → A) → List A → List A
+  changeFirst p f [] = []
+  changeFirst p f (x ∷ xs) = cond (p x) (f x ∷ xs) (x ∷ changeFirst p f xs)
+
+  -- each that passes changed by f
+  abbrev pub changeEach : (A → Bool) → (A → A) → A → A
+  changeEach p f x = cond (p x) (f x) x
+
+  -- the list without what stands at an index
+  abbrev pub eraseAt : ℕ → List A → List A
+  eraseAt k l = take k l ++ drop (suc k) l
+
+  -- the test passes at every element
+  abbrev pub every : (A → Bool) → List A → Bool
+  every p [] = true
+  every p (x ∷ xs) = p x && every p xs
+
+-- no number is below the one before it
+abbrev pub neverFalls : List ℕ → Bool
+neverFalls [] = true
+neverFalls (x ∷ xs) = every (leb x) xs && neverFalls xs

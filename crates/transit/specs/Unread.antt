@@ -1,0 +1,101 @@
+-- What a `Transit` holds, and what each routine makes of it. Paper 01, "Names and places".
+-- Assumes nothing.
+use mathlib.Core.Bool.{Bool, true, false, cond, _&&_}
+use mathlib.Core.List.{List, [], _∷_, _++_, map}
+use Prim.Native.Nat.{ℕ, _+_}
+use lib.Dec.{ltb}
+use lib.ListN.{length, take}
+use Rattle.transit.specs.Lists.{select, without, changeFirst, changeEach}
+use Rattle.transit.specs.Message.{picks, placeOrder, relabelled, at}
+use Rattle.transit.specs.declared.Found.{Found}
+use Rattle.transit.specs.declared.Found.the-variants.{First, Nothing}
+use Rattle.transit.specs.declared.Message.{Message}
+use Rattle.transit.specs.declared.Place.{Place}
+use Rattle.transit.specs.declared.Selection.{Selection}
+use Rattle.transit.specs.declared.Transit.{Transit}
+use Rattle.transit.specs.declared.append.Appended.{Appended}
+use Rattle.transit.specs.declared.remove.Removed.{Removed}
+
+-- the unread messages in order of sending, and the count as it is stored: the two agree in a sound state
+pub record Unread : Type 0 where
+  pub messages : List Message
+  pub count : ℕ
+
+-- the slots past the count mean nothing
+abbrev pub view : Transit → Unread
+view t = record { messages = take (t .count) (t .messages); count = t .count }
+
+-- "At most 1,024 are unread in the whole desk."
+abbrev pub limit : ℕ
+limit = 1024
+
+-- "A fresh desk has .. no messages"
+abbrev pub nothing : Unread
+nothing = record { messages = []; count = 0 }
+
+-- a list of messages, counted
+abbrev pub counted : List Message → Unread
+counted l = record { messages = l; count = length l }
+
+-- whether it was full, and what is unread afterwards
+pub record AfterAppend : Type 0 where
+  pub full : Bool
+  pub unread : Unread
+
+-- the new message comes last, or all is as it was
+abbrev pub appended : Unread → Message → AfterAppend
+appended u m =
+    cond (ltb (u .count) limit)
+    (record { full = false; unread = record { messages = u .messages ++ (m ∷ []); count = u .count + 1 } })
+    (record { full = true; unread = u })
+
+-- what a call of `append` answers
+abbrev pub afterAppend : Appended → AfterAppend
+afterAppend r = record { full = r .full; unread = view (r .transit) }
+
+-- the head of a list of messages
+abbrev pub head : List Message → Found
+head [] = Nothing
+head (m ∷ ms) = First m
+
+-- the selected message that was sent first
+abbrev pub firstSent : Selection → Unread → Found
+firstSent s u = head (select (picks s) (u .messages))
+
+-- each selected message at the place
+abbrev pub eachTo : Selection → Place → List Message → List Message
+eachTo s p l = map (changeEach (picks s) (relabelled p)) l
+
+-- the selected message that was sent first at the place
+abbrev pub firstTo : Selection → Place → List Message → List Message
+firstTo s p l = changeFirst (picks s) (relabelled p) l
+
+-- each selected message goes to the place
+abbrev pub relabelAll : Selection → Place → Unread → Unread
+relabelAll s p u = record { messages = eachTo s p (u .messages); count = u .count }
+
+-- the selected message that was sent first goes to the place
+abbrev pub relabelFirst : Selection → Place → Unread → Unread
+relabelFirst s p u = record { messages = firstTo s p (u .messages); count = u .count }
+
+-- what a removal found, and what is unread afterwards
+pub record AfterRemove : Type 0 where
+  pub found : Found
+  pub unread : Unread
+
+-- the messages without the first of the selected ones at a message's place
+abbrev pub takeOut : Selection → Message → List Message → List Message
+takeOut s m l = without (λ x. picks s x && at (m .place) x) l
+
+-- the message leaves that was sent first of the selected ones at its place
+abbrev pub leave : Selection → Unread → Found → AfterRemove
+leave s u Nothing = record { found = Nothing; unread = u }
+leave s u (First m) = record { found = First m; unread = counted (takeOut s m (u .messages)) }
+
+-- "the first unread message .. in place order leaves"
+abbrev pub removed : Selection → Unread → AfterRemove
+removed s u = leave s u (head (placeOrder s (u .messages)))
+
+-- what a call of `remove` answers
+abbrev pub afterRemove : Removed → AfterRemove
+afterRemove r = record { found = r .found; unread = view (r .transit) }
