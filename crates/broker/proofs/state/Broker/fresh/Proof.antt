@@ -1,0 +1,13 @@
+-- `broker::state::Broker::fresh` meets its contract: the unread part is what `Transit::fresh` ensures. Assumes nothing.
+use borrow.Author.Needs.{needs}
+use Rattle.broker.proofs.state.Broker.fresh.Statement.{statement}
+use Rattle.broker.proofs.state.Broker.fresh.Tie as tie
+
+fresh-requires : tie.Need-fresh-requires
+fresh-requires c κs = search needs
+
+returns : tie.Need-returns
+returns c = rw (c .fresh .ensures)
+
+pub fresh-spec : {M : Type 1} → statement M
+fresh-spec = tie.close (tie.spec fresh-requires returns)

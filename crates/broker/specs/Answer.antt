@@ -1,0 +1,46 @@
+-- Paper 01's number and values of an answer. Paper 01, "Where each step is checked".
+-- Assumes nothing.
+use mathlib.Core.List.{List, [], _∷_}
+use Prim.Native.Nat.{ℕ}
+use Rattle.broker.specs.declared.answer.Answer.{Answer}
+use Rattle.broker.specs.declared.answer.Answer.the-variants.{Accepted, Refused}
+use Rattle.broker.specs.declared.answer.Refusal.{Refusal}
+use Rattle.broker.specs.declared.answer.Refusal.the-variants.{Unsound, UnknownKind, CutShort, RankRange, HostRange, SameRank, NotStarted, AlreadyStarted, HasEnded, IsMigrating, NotMigrating, Connected, RequestOpen, NoRequest, NotConnected, PeerMigrating, NoNotice, SameHost, BacklogLeft, NoBacklog, NothingToDrain, NothingUnread, UnreadLeft, Full, NumbersSpent}
+
+-- the number of each row of the table of checks
+abbrev pub refusalNumber : Refusal → ℕ
+refusalNumber Unsound = 1
+refusalNumber UnknownKind = 2
+refusalNumber CutShort = 3
+refusalNumber RankRange = 4
+refusalNumber HostRange = 5
+refusalNumber SameRank = 6
+refusalNumber NotStarted = 7
+refusalNumber AlreadyStarted = 8
+refusalNumber HasEnded = 9
+refusalNumber IsMigrating = 10
+refusalNumber NotMigrating = 11
+refusalNumber Connected = 12
+refusalNumber RequestOpen = 13
+refusalNumber NoRequest = 14
+refusalNumber NotConnected = 15
+refusalNumber PeerMigrating = 16
+refusalNumber NoNotice = 17
+refusalNumber SameHost = 18
+refusalNumber BacklogLeft = 19
+refusalNumber NoBacklog = 20
+refusalNumber NothingToDrain = 21
+refusalNumber NothingUnread = 22
+refusalNumber UnreadLeft = 23
+refusalNumber Full = 24
+refusalNumber NumbersSpent = 25
+
+-- the printed number: "0 when accepted"
+abbrev pub number : Answer → ℕ
+number (Accepted v1 v2 v3) = 0
+number (Refused n) = refusalNumber n
+
+-- v1, v2 and v3: "A refusal leaves .. v1 to v3 zero."
+abbrev pub values : Answer → List ℕ
+values (Accepted v1 v2 v3) = v1 ∷ v2 ∷ v3 ∷ []
+values (Refused n) = 0 ∷ 0 ∷ 0 ∷ []

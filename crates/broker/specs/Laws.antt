@@ -1,0 +1,19 @@
+-- Theorems of the definitions.
+pub mod Accepted
+pub mod Cases
+pub mod Changes
+pub mod Checks
+pub mod Each
+pub mod Edges
+pub mod Effect
+pub mod Fit
+pub mod Kept
+pub mod Leaving
+pub mod Links
+pub mod Logic
+pub mod Names
+pub mod Ranks
+pub mod Rising
+pub mod Sound
+pub mod State
+pub mod View

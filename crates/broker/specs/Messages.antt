@@ -1,0 +1,60 @@
+-- Send, take and look: what each does to the state and answers. Paper 01, "The step log", kinds 04, 05 and 0C.
+-- Assumes nothing.
+use Prim.Native.Nat.{ℕ}
+use Rattle.transit.specs.Lists.{tally}
+use Rattle.transit.specs.Message.{between}
+use Rattle.transit.specs.Unread.{Unread, appended, AfterRemove, removed}
+use Rattle.transit.specs.declared.Found.{Found}
+use Rattle.transit.specs.declared.Found.the-variants.{First, Nothing}
+use Rattle.transit.specs.declared.Message.{Message}
+use Rattle.transit.specs.declared.Place.{Place}
+use Rattle.transit.specs.declared.Place.the-variants.{SourceChannel, Channel}
+use Rattle.transit.specs.declared.Rank.{Rank}
+use Rattle.transit.specs.declared.Selection.the-variants.{Between}
+use Rattle.broker.specs.Life.{Done, done}
+use Rattle.broker.specs.State.{State, connection, messages, withUnread}
+use Rattle.broker.specs.declared.link.Connection.{Connection}
+use Rattle.broker.specs.declared.link.Connection.the-variants.{Closed, Open, Closing}
+
+-- "place 3 on a plain line, place 1 on a notice line"; where there is no line nothing is sent
+abbrev pub placeOver : Connection → Place
+placeOver Closed = Channel
+placeOver Open = Channel
+placeOver Closing = SourceChannel
+
+-- "unread of the pair"
+abbrev pub unreadBetween : Rank → Rank → State → ℕ
+unreadBetween a b s = tally (between a b) (messages s)
+
+-- the message that a send makes
+abbrev pub sentMessage : Rank → Rank → ℕ → State → Message
+sentMessage a b v s = record { sender = a; receiver = b; value = v; place = placeOver (connection s a b) }
+
+-- the state with the message among the unread
+abbrev pub afterSend : Rank → Rank → ℕ → State → State
+afterSend a b v s = withUnread (appended (s .unread) (sentMessage a b v s) .unread) s
+
+-- "v1 unread of the pair afterwards"
+unfoldable pub send : Rank → Rank → ℕ → State → Done
+send a b v s = done (afterSend a b v s) (unreadBetween a b (afterSend a b v s)) 0 0
+
+-- the value of what was found
+abbrev pub valueIn : Found → ℕ
+valueIn Nothing = 0
+valueIn (First m) = m .value
+
+abbrev pub afterTake : Rank → Rank → State → AfterRemove
+afterTake b a s = removed (Between a b) (s .unread)
+
+-- "the first unread message from a to b in place order leaves. v1 value, v2 unread of the pair afterwards."
+unfoldable pub take : Rank → Rank → State → Done
+take b a s =
+    done
+    (withUnread (afterTake b a s .unread) s)
+    (valueIn (afterTake b a s .found))
+    (unreadBetween a b (withUnread (afterTake b a s .unread) s))
+    0
+
+-- "v1 a rank with a message unread by r; which one is free": the rank named is given
+unfoldable pub look : Rank → Rank → State → Done
+look named r s = done s (named .0) 0 0
