@@ -40,27 +40,33 @@ apply named (Part a b) s = part a b s
 apply named (End r) s = end r s
 apply named (Look r) s = look named r s
 
+-- what a record that was read whole comes to: its answer, and the state afterwards
+pub record Settlement : Type 0 where
+  pub answer : Answer
+  pub state : State
+
+-- "A refusal leaves the state lent for a step unchanged, v1 to v3 zero."
+abbrev pub onRefusal : Option Refusal → Done → State → Settlement
+onRefusal (some n) d s = record { answer = Refused n; state = s }
+onRefusal none d s = record { answer = Accepted (d .v1) (d .v2) (d .v3); state = d .state }
+
+-- by the first check that applies
+unfoldable pub settle : Rank → Record → State → Settlement
+settle named r s = onRefusal (refusal s r) (apply named r s) s
+
 -- all of a step's outcome: its answer, the next position, and the state afterwards
 pub record Outcome : Type 0 where
   pub answer : Answer
   pub next : ℕ
   pub state : State
 
--- "A refusal leaves the state lent for a step unchanged, v1 to v3 zero."
 abbrev pub refused : Refusal → ℕ → State → Outcome
 refused n next s = record { answer = Refused n; next = next; state = s }
 
-abbrev pub accepted : Done → ℕ → Outcome
-accepted d next = record { answer = Accepted (d .v1) (d .v2) (d .v3); next = next; state = d .state }
-
--- a record that was read whole, by the first check that applies to it
-abbrev pub onCheck : Rank → Record → ℕ → State → Option Refusal → Outcome
-onCheck named r next s (some n) = refused n next s
-onCheck named r next s none = accepted (apply named r s) next
-
 -- "The position passes the record, except at 1, 2 and 3, where it stays."
 abbrev pub onDecoded : Rank → ℕ → State → Decoded → Outcome
-onDecoded named at s (Whole r next) = onCheck named r next s (refusal s r)
+onDecoded named at s (Whole r next) =
+    record { answer = settle named r s .answer; next = next; state = settle named r s .state }
 onDecoded named at s Unknown = refused UnknownKind at s
 onDecoded named at s Cut = refused CutShort at s
 

@@ -1,0 +1,48 @@
+-- Every accepted record keeps a sound state sound: the shape, the names, the pairs and the messages, each in a file of its own.
+-- Assumes nothing.
+pub mod Effects
+pub mod Names
+pub mod Order
+pub mod Shape
+pub mod Views
+use mathlib.Core.Path.{_≡_}
+use mathlib.Core.Bool.{true}
+use mathlib.Core.Option.{none}
+use Rattle.transit.specs.declared.Rank.{Rank}
+use Rattle.broker.specs.Checks.{refusal}
+use Rattle.broker.specs.Laws.Checks.{Passes, passes}
+use Rattle.broker.specs.Laws.Fit.{ends-from-fits, unheeded-from-fits, places-from-fits}
+use Rattle.broker.specs.Laws.Kept.Names.{names-kept}
+use Rattle.broker.specs.Laws.Kept.Order.{order-kept}
+use Rattle.broker.specs.Laws.Kept.Shape.{shape-kept}
+use Rattle.broker.specs.Laws.Kept.Views.{views-kept}
+use Rattle.broker.specs.Laws.Sound.{Facts, facts, of-facts}
+use Rattle.broker.specs.Sound.{sound}
+use Rattle.broker.specs.State.{State, messages}
+use Rattle.broker.specs.Step.{apply}
+use Rattle.broker.specs.declared.record.Record.{Record}
+
+facts-kept : (named : Rank) (s : State) (r : Record) → Facts s → Passes s r → Facts (apply named r s .state)
+facts-kept named s r f p =
+    let after = apply named r s .state in
+    let views = views-kept named s r f p in
+    let order = order-kept named s r f p in
+    record {
+      shape = shape-kept named s r (f .shape);
+      names = names-kept named s r f p;
+      pairs = views .pairs;
+      mail =
+          record {
+            few = order .few;
+            counted = order .counted;
+            named = order .named;
+            ends-fit = ends-from-fits after (messages after) (views .placed);
+            unheeded-places = unheeded-from-fits after (messages after) (views .placed);
+            places-fit = places-from-fits after (messages after) (views .placed);
+            places-rise = order .places-rise;
+          };
+    }
+
+-- "Every step keeps a sound state sound."
+pub sound-kept : (named : Rank) (s : State) (r : Record) → sound s ≡ true → refusal s r ≡ none → sound (apply named r s .state) ≡ true
+sound-kept named s r h p = of-facts (apply named r s .state) (facts-kept named s r (facts s h) (passes s r p))

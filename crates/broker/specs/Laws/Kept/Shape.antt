@@ -1,0 +1,105 @@
+-- Every record keeps the state's shape: a part for each rank, for each rank and each rank, and for each host.
+-- Assumes nothing.
+use mathlib.Core.Path.{_≡_}
+use mathlib.Core.List.{List}
+use Prim.Native.Nat.{ℕ}
+use lib.ListN.{length, length-set}
+use Rattle.transit.specs.Unread.{Unread}
+use Rattle.transit.specs.declared.Rank.{Rank}
+use Rattle.broker.specs.Connect.{call, part, connectBoth, withdraw}
+use Rattle.broker.specs.Laws.Cases.{chosen, route-cases, drain-cases}
+use Rattle.broker.specs.Laws.Each.{long-set, announced-long}
+use Rattle.broker.specs.Laws.Ranks.{eachRank-keeps}
+use Rattle.broker.specs.Laws.Sound.{Shape}
+use Rattle.broker.specs.Life.{start, end}
+use Rattle.broker.specs.Messages.{send, take, look}
+use Rattle.broker.specs.Migrate.{leaveOver, leave, leaveAll, move, heed, land}
+use Rattle.broker.specs.Names.{asksFor}
+use Rattle.broker.specs.State.{State, request, linkAt, withProcess, withLocations, withLinks, withDrawn, withUnread}
+use Rattle.broker.specs.Step.{apply}
+use Rattle.broker.specs.declared.link.Connection.{Connection}
+use Rattle.broker.specs.declared.link.Connection.the-variants.{Closed, Open, Closing}
+use Rattle.broker.specs.declared.link.Link.{Link}
+use Rattle.broker.specs.declared.process.Process.{Process}
+use Rattle.broker.specs.declared.process.Vmid.{Vmid}
+use Rattle.broker.specs.declared.record.Record.{Record}
+use Rattle.broker.specs.declared.record.Record.the-variants.{Start, Call, Route, Send, Take, Move, Heed, Drain, Land, Part, End, Look}
+
+-- the shape after a change of one part
+shape-with-process : {s : State} (r : Rank) (p : Process) → Shape s → Shape (withProcess r p s)
+shape-with-process {s} r p f =
+    record {
+      processes-long = long-set 16 (s .processes) (r .0) p (f .processes-long);
+      locations-long = f .locations-long;
+      links-long = f .links-long;
+      drawn-long = f .drawn-long;
+    }
+
+pub shape-with-locations : {s : State} (ls : List Vmid) → length ls ≡ 256 → Shape s → Shape (withLocations ls s)
+shape-with-locations ls e f =
+    record { processes-long = f .processes-long; locations-long = e; links-long = f .links-long; drawn-long = f .drawn-long }
+
+shape-with-links : {s : State} (ls : List Link) → length ls ≡ 256 → Shape s → Shape (withLinks ls s)
+shape-with-links ls e f =
+    record
+    { processes-long = f .processes-long; locations-long = f .locations-long; links-long = e; drawn-long = f .drawn-long }
+
+pub shape-with-drawn : {s : State} (h n : ℕ) → Shape s → Shape (withDrawn h n s)
+shape-with-drawn {s} h n f =
+    record {
+      processes-long = f .processes-long;
+      locations-long = f .locations-long;
+      links-long = f .links-long;
+      drawn-long = long-set 8 (s .drawn) h n (f .drawn-long);
+    }
+
+shape-with-unread : {s : State} (u : Unread) → Shape s → Shape (withUnread u s)
+shape-with-unread u f =
+    record {
+      processes-long = f .processes-long;
+      locations-long = f .locations-long;
+      links-long = f .links-long;
+      drawn-long = f .drawn-long;
+    }
+
+-- r's leaving keeps the length of the links
+leaveOver-long : (c : Connection) (r p : Rank) (ls : List Link) → length ls ≡ 256 → length (leaveOver c r p ls) ≡ 256
+leaveOver-long Closed r p ls e = e
+leaveOver-long Open r p ls e = rw (length-set, length-set) e
+leaveOver-long Closing r p ls e = rw (length-set, length-set) e
+
+leaveAll-long : (r : Rank) (ls : List Link) → length ls ≡ 256 → length (leaveAll r ls) ≡ 256
+unfolding leaveAll
+leaveAll-long r ls e =
+    eachRank-keeps (λ (l : List Link). length l ≡ 256) (leave r) ls e
+    (λ p l. leaveOver-long (linkAt l r p .connection) r p l)
+
+pub shape-connect : {s : State} (a b : Rank) (c : Connection) → Shape s → Shape (connectBoth a b c s)
+shape-connect a b c f = shape-with-links _ (rw (length-set, length-set) (f .links-long)) f
+
+pub shape-withdraw : {s : State} (a b : Rank) → Shape s → Shape (withdraw a b s)
+shape-withdraw {s} a b f = chosen Shape (asksFor b (request s a)) _ s (λ e. shape-with-process a _ f) (λ e. f)
+
+-- every record keeps the shape, accepted or not
+pub shape-kept : (named : Rank) (s : State) (r : Record) → Shape s → Shape (apply named r s .state)
+unfolding apply start end call part send take look move heed land
+shape-kept named s (Start r h) f =
+    shape-with-locations _ (announced-long r _ (s .locations) (f .locations-long))
+    (shape-with-process r _ (shape-with-drawn h _ f))
+shape-kept named s (Call a b) f = shape-with-process a _ f
+shape-kept named s (Route a b) f =
+    route-cases Shape a b s (shape-with-process a _ f) (shape-withdraw b a (shape-withdraw a b (shape-connect a b Open f)))
+    (shape-with-locations _ (rw length-set (f .locations-long)) (shape-with-process a _ f))
+shape-kept named s (Send a b v) f = shape-with-unread _ f
+shape-kept named s (Take b a) f = shape-with-unread _ f
+shape-kept named s (Move r h) f =
+    shape-with-links _ (leaveAll-long r (s .links) (f .links-long))
+    (shape-with-unread _ (shape-with-process r _ (shape-with-drawn h _ f)))
+shape-kept named s (Heed b r) f =
+    shape-with-links _ (rw (length-set, length-set) (f .links-long)) (shape-with-unread _ f)
+shape-kept named s (Drain r p) f =
+    drain-cases Shape r p s (shape-with-unread _ f) (shape-with-links _ (rw length-set (f .links-long)) f)
+shape-kept named s (Land r) f = shape-with-process r _ (shape-with-unread _ f)
+shape-kept named s (Part a b) f = shape-connect a b Closed (shape-with-unread _ f)
+shape-kept named s (End r) f = shape-with-process r _ f
+shape-kept named s (Look r) f = f

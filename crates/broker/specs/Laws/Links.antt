@@ -1,0 +1,62 @@
+-- Laws of links: what a changed line, a changed await, both lines of a pair, and a move leave at each pair of ranks.
+-- Assumes nothing.
+use mathlib.Core.Path.{_≡_, refl, sym, ap, _∙_}
+use mathlib.Core.Bool.{Bool, true, false, cond, _&&_}
+use mathlib.Core.List.{List}
+use Prim.Native.Nat.{ℕ, _<_}
+use lib.ListN.{length, length-set}
+use Rattle.transit.specs.Message.{sameRank}
+use Rattle.transit.specs.declared.Rank.{Rank}
+use Rattle.broker.specs.Connect.{connect}
+use Rattle.broker.specs.Laws.Logic.{and-left, and-right}
+use Rattle.broker.specs.Laws.State.{link-set, sameRank-eq}
+use Rattle.broker.specs.Migrate.{await}
+use Rattle.broker.specs.State.{cell, linkAt, setLink}
+use Rattle.broker.specs.declared.link.Backlog.{Backlog}
+use Rattle.broker.specs.declared.link.Connection.{Connection}
+use Rattle.broker.specs.declared.link.Link.{Link}
+
+pub connect-long : (ls : List Link) (p q : Rank) (c : Connection) → length ls ≡ 256 → length (connect p q c ls) ≡ 256
+connect-long ls p q c n = simp length-set n
+
+pub await-long : (ls : List Link) (p q : Rank) (g : Backlog) → length ls ≡ 256 → length (await p q g ls) ≡ 256
+await-long ls p q g n = simp length-set n
+
+-- both ranks are the same
+same-pair : (a b p q : Rank) → (sameRank a p && sameRank b q) ≡ true → (ls : List Link) → linkAt ls a b ≡ linkAt ls p q
+same-pair a b p q e ls =
+    ap (λ (r : Rank). linkAt ls r b) (sameRank-eq a p (and-left (sameRank a p) (sameRank b q) e)) ∙
+    ap (linkAt ls p) (sameRank-eq b q (and-right (sameRank a p) (sameRank b q) e))
+
+module _ (ls : List Link) (p q : Rank) (n : length ls ≡ 256) (hp : p .0 < 16) (hq : q .0 < 16) (a b : Rank) (hb : b .0 < 16) where
+  -- a line that is set is set there, and everywhere else stands as it stood
+  pub connect-connection : (c : Connection) → linkAt (connect p q c ls) a b .connection ≡ cond (sameRank a p && sameRank b q) c (linkAt ls a b .connection)
+  connect-connection c = at (sameRank a p && sameRank b q) (link-set ls p q a b (record { connection = c; backlog = linkAt ls p q .backlog }) n hp hq hb)
+    where
+      at : (t : Bool) → linkAt (connect p q c ls) a b ≡ cond t (record { connection = c; backlog = linkAt ls p q .backlog }) (linkAt ls a b) → linkAt (connect p q c ls) a b .connection ≡ cond t c (linkAt ls a b .connection)
+      at true e = ap (λ (l : Link). l .connection) e
+      at false e = ap (λ (l : Link). l .connection) e
+
+  -- and no await changes
+  pub connect-backlog : (c : Connection) → linkAt (connect p q c ls) a b .backlog ≡ linkAt ls a b .backlog
+  connect-backlog c = at (sameRank a p && sameRank b q) refl (link-set ls p q a b (record { connection = c; backlog = linkAt ls p q .backlog }) n hp hq hb)
+    where
+      at : (t : Bool) → (sameRank a p && sameRank b q) ≡ t → linkAt (connect p q c ls) a b ≡ cond t (record { connection = c; backlog = linkAt ls p q .backlog }) (linkAt ls a b) → linkAt (connect p q c ls) a b .backlog ≡ linkAt ls a b .backlog
+      at true g e = ap (λ (l : Link). l .backlog) e ∙ ap (λ (l : Link). l .backlog) (sym (same-pair a b p q g ls))
+      at false g e = ap (λ (l : Link). l .backlog) e
+
+  -- an await that is set is set there, and everywhere else stands as it stood
+  pub await-backlog : (g : Backlog) → linkAt (await p q g ls) a b .backlog ≡ cond (sameRank a p && sameRank b q) g (linkAt ls a b .backlog)
+  await-backlog g = at (sameRank a p && sameRank b q) (link-set ls p q a b (record { connection = linkAt ls p q .connection; backlog = g }) n hp hq hb)
+    where
+      at : (t : Bool) → linkAt (await p q g ls) a b ≡ cond t (record { connection = linkAt ls p q .connection; backlog = g }) (linkAt ls a b) → linkAt (await p q g ls) a b .backlog ≡ cond t g (linkAt ls a b .backlog)
+      at true e = ap (λ (l : Link). l .backlog) e
+      at false e = ap (λ (l : Link). l .backlog) e
+
+  -- and no line changes
+  pub await-connection : (g : Backlog) → linkAt (await p q g ls) a b .connection ≡ linkAt ls a b .connection
+  await-connection g = at (sameRank a p && sameRank b q) refl (link-set ls p q a b (record { connection = linkAt ls p q .connection; backlog = g }) n hp hq hb)
+    where
+      at : (t : Bool) → (sameRank a p && sameRank b q) ≡ t → linkAt (await p q g ls) a b ≡ cond t (record { connection = linkAt ls p q .connection; backlog = g }) (linkAt ls a b) → linkAt (await p q g ls) a b .connection ≡ linkAt ls a b .connection
+      at true e g = ap (λ (l : Link). l .connection) g ∙ ap (λ (l : Link). l .connection) (sym (same-pair a b p q e ls))
+      at false e g = ap (λ (l : Link). l .connection) g

@@ -1,0 +1,55 @@
+-- Lists of which some elements are selected, or the first that passes a test leaves or is changed: tests at every element, and numbers
+-- that never fall. Assumes nothing.
+use mathlib.Core.Path.{_≡_, refl, _∙_}
+use mathlib.Core.Bool.{Bool, true, false, _&&_}
+use mathlib.Core.List.{List, [], _∷_, map}
+use Prim.Native.Nat.{ℕ, _≤_}
+use native.Mathlib.Omega.{arith}
+use borrow.Author.Tests.{leb-true, le-leb}
+use lib.Dec.{leb}
+use lib.ListN.{length}
+use Rattle.transit.specs.Lists.{select, every, without, changeFirst, neverFalls}
+use Rattle.transit.specs.Laws.Lists.{every-map, every-both, every-select, every-selected, every-wider, every-changeFirst}
+use Rattle.transit.specs.Laws.Tests.{by-test}
+use Rattle.broker.specs.Laws.Logic.{both, and-left, and-right}
+
+module _ {A : Type 0} where
+  -- Where every element passes t, every element that passes p passes what follows from both.
+  pub every-chosen : (p t r : A → Bool) → ((x : A) → p x ≡ true → t x ≡ true → r x ≡ true) → (l : List A) → every t l ≡ true → every r (select p l) ≡ true
+  every-chosen p t r follows l all = every-both p t r follows (select p l) (every-selected p l) (every-select t p l all)
+
+  -- The list without the first that passes is no longer than the list.
+  pub without-shorter : (q : A → Bool) (l : List A) → length (without q l) ≤ length l
+  without-shorter q [] = omega arith
+  without-shorter q (x ∷ l) = let h = without-shorter q l in by-test (q x) (λ e. rw e (omega arith)) (λ e. rw e (omega arith))
+
+  -- Numbers of elements that all pass p never fall when that of the first that passes q is lowered, if p does not see the change and the
+  -- number stays no lower than those up to it of elements that do not pass q.
+  pub neverFalls-changeFirst : (g : A → ℕ) (p q : A → Bool) (f : A → A) → ((x : A) → p (f x) ≡ p x) → ((x : A) → q x ≡ true → g (f x) ≤ g x)
+      → ((x y : A) → p x ≡ true → p y ≡ true → q x ≡ false → q y ≡ true → g x ≤ g y → g x ≤ g (f y))
+      → (l : List A) → every p l ≡ true → neverFalls (map g l) ≡ true → neverFalls (map g (changeFirst q f l)) ≡ true
+  neverFalls-changeFirst g p q f kept lower above [] all sorted = refl
+  neverFalls-changeFirst g p q f kept lower above (x ∷ l) all sorted =
+      let here = and-left (p x) (every p l) all in
+      let others = and-right (p x) (every p l) all in
+      let from : A → A → Bool = λ y z. leb (g y) (g z) in
+      let first : every (from x) l ≡ true = rw every-map at (and-left (every (leb (g x)) (map g l)) (neverFalls (map g l)) sorted) in
+      let rest = and-right (every (leb (g x)) (map g l)) (neverFalls (map g l)) sorted in
+      by-test (q x)
+      (λ e.
+      let still : every (leb (g (f x))) (map g l) ≡ true =
+      rw every-map (every-wider (from x) (from (f x)) (λ y h. le-leb (g (f x)) (g y) (omega (arith, lower x e, leb-true (g x) (g y) h))) l first)
+      in
+      rw e (both still rest))
+      (λ e.
+      let after : every (λ y. p y && from x y) (changeFirst q f l) ≡ true =
+      every-changeFirst (λ y. p y && from x y) q f
+      (λ y h c.
+      let mine = and-left (p y) (from x y) h in
+      both (kept y ∙ mine) (le-leb (g x) (g (f y)) (above x y here mine e c (leb-true (g x) (g y) (and-right (p y) (from x y) h)))))
+      l (every-both p (from x) (λ y. p y && from x y) (λ y h k. both h k) l others first)
+      in
+      let still : every (leb (g x)) (map g (changeFirst q f l)) ≡ true =
+      rw every-map (every-wider (λ y. p y && from x y) (from x) (λ y h. and-right (p y) (from x y) h) (changeFirst q f l) after)
+      in
+      rw e (both still (neverFalls-changeFirst g p q f kept lower above l others rest)))

@@ -1,0 +1,220 @@
+-- Soundness as facts about each rank, each pair of ranks and the messages: taken from the test, and put together into it again.
+-- Assumes nothing.
+use mathlib.Core.Path.{_≡_, refl}
+use mathlib.Core.Bool.{Bool, true, false, not, cond, Bool·beq, _&&_, _||_}
+use mathlib.Core.List.{List, [], _∷_, map}
+use Prim.Native.Nat.{ℕ, _<_, _≤_}
+use borrow.Author.Tests.{eqb-true, eq-eqb, leb-true, le-leb}
+use lib.Dec.{eqb, leb}
+use lib.ListN.{length}
+use Rattle.transit.specs.Lists.{select, every, neverFalls}
+use Rattle.transit.specs.Message.{between, at, placeNumber, sameRank}
+use Rattle.transit.specs.Unread.{limit}
+use Rattle.transit.specs.declared.Message.{Message}
+use Rattle.transit.specs.declared.Place.the-variants.{SourceList, SourceChannel, Channel}
+use Rattle.transit.specs.declared.Rank.{Rank}
+use Rattle.broker.specs.Laws.Logic.{both, parts, chained}
+use Rattle.broker.specs.Laws.Ranks.{allBelow-at, allBelow-of, everyRank-at, everyRank-of, everyPair-at, everyPair-of}
+use Rattle.broker.specs.Names.{hosts, numbers, unknown, sameVmid, isStarted, isRunning, isMigrating, isLive, processesOf, vmidsOf, asksFor, isClosed, isOpen, isClosing, isClear, isUnheeded}
+use Rattle.broker.specs.Ranks.{isRank}
+use Rattle.broker.specs.Sound
+use Rattle.broker.specs.Sound.{sound, isDrawn, ofCall, noneShared, distinct}
+use Rattle.broker.specs.State.{State, status, request, location, connection, backlog, drawnOn, messages}
+
+-- a test that passes at each rank, and at each rank and each rank
+abbrev pub AtRanks : (Rank → Bool) → Type 0
+AtRanks f = (r : Rank) → r .0 < 16 → f r ≡ true
+
+abbrev pub AtPairs : (Rank → Rank → Bool) → Type 0
+AtPairs f = (a b : Rank) → a .0 < 16 → b .0 < 16 → f a b ≡ true
+
+pub record Shape (s : State) : Type 0 where
+  pub processes-long : length (s .processes) ≡ 16
+  pub locations-long : length (s .locations) ≡ 256
+  pub links-long : length (s .links) ≡ 256
+  pub drawn-long : length (s .drawn) ≡ 8
+
+pub record Names (s : State) : Type 0 where
+  pub numbers-in-range : (h : ℕ) → h < 8 → drawnOn s h ≤ numbers
+  pub vmids-drawn : AtRanks (λ r. every (isDrawn s) (vmidsOf (status s r)))
+  pub calls-drawn : AtRanks (λ r. ofCall isRank (isDrawn s) (request s r))
+  pub tables-drawn : AtPairs (λ a b. cond (isStarted (status s b)) (isDrawn s (location s a b)) (sameVmid (location s a b) unknown))
+  pub vmids-apart : AtPairs (λ a b. cond (sameRank a b) (distinct (processesOf (status s a))) (noneShared (processesOf (status s a)) (processesOf (status s b))))
+
+pub record Pairs (s : State) : Type 0 where
+  pub nothing-with-self : AtRanks (λ r. isClosed (connection s r r) && isClear (backlog s r r) && not (asksFor r (request s r)))
+  pub lines-belong : AtPairs (λ a b. isClosed (connection s a b) || isLive (status s a))
+  pub plain-both-sides : AtPairs (λ a b. not (isOpen (connection s a b)) || isOpen (connection s b a))
+  pub notice-faces-none : AtPairs (λ a b. not (isClosing (connection s a b)) || isClosed (connection s b a))
+  pub awaits-belong : AtPairs (λ r p. isClear (backlog s r p) || isMigrating (status s r) && isStarted (status s p))
+  pub unheeded-is-notice : AtPairs (λ r p. Bool·beq (isUnheeded (backlog s r p)) (isClosing (connection s p r)))
+  pub calls-fit : AtPairs (λ a b. not (asksFor b (request s a)) || isRunning (status s a) && isStarted (status s b) && isClosed (connection s a b))
+
+-- the tests of one message, as `Sound` words them
+abbrev pub isNamed : Message → Bool
+isNamed m = isRank (m .sender) && isRank (m .receiver) && not (sameRank (m .sender) (m .receiver))
+
+abbrev pub hasEnds : State → Message → Bool
+hasEnds s m = isStarted (status s (m .sender)) && isLive (status s (m .receiver))
+
+abbrev pub fitsUnheeded : State → Message → Bool
+fitsUnheeded s m = not (isUnheeded (backlog s (m .receiver) (m .sender))) || at SourceList m || at SourceChannel m
+
+abbrev pub fitsPlace : State → Message → Bool
+fitsPlace s m =
+    (not (at SourceList m || at SourceChannel m) || isMigrating (status s (m .receiver))) &&
+    (not (at SourceChannel m) || not (isClear (backlog s (m .receiver) (m .sender)))) &&
+    (not (at Channel m) || not (isClosed (connection s (m .receiver) (m .sender))))
+
+pub record Mail (s : State) : Type 0 where
+  pub few : s .unread .count ≤ limit
+  pub counted : length (messages s) ≡ s .unread .count
+  pub named : every isNamed (messages s) ≡ true
+  pub ends-fit : every (hasEnds s) (messages s) ≡ true
+  pub unheeded-places : every (fitsUnheeded s) (messages s) ≡ true
+  pub places-fit : every (fitsPlace s) (messages s) ≡ true
+  pub places-rise : AtPairs (λ a b. neverFalls (map (λ m. placeNumber (m .place)) (select (between a b) (messages s))))
+
+pub record Facts (s : State) : Type 0 where
+  pub shape : Shape s
+  pub names : Names s
+  pub pairs : Pairs s
+  pub mail : Mail s
+
+-- the clauses of each group, after its first
+abbrev longs : State → List Bool
+longs s = eqb (length (s .locations)) 256 ∷ eqb (length (s .links)) 256 ∷ eqb (length (s .drawn)) 8 ∷ []
+
+abbrev nameClauses : State → List Bool
+nameClauses s = Sound.vmidsDrawn s ∷ Sound.callsDrawn s ∷ Sound.tablesDrawn s ∷ Sound.vmidsApart s ∷ []
+
+abbrev pairClauses : State → List Bool
+pairClauses s =
+    Sound.linesBelong s ∷
+    Sound.plainBothSides s ∷
+    Sound.noticeFacesNone s ∷
+    Sound.awaitsBelong s ∷
+    Sound.unheededIsNotice s ∷
+    Sound.callsFit s ∷ []
+
+abbrev mailClauses : State → List Bool
+mailClauses s =
+    Sound.messagesNamed s ∷ Sound.endsFit s ∷ Sound.unheededPlaces s ∷ Sound.placesFit s ∷ Sound.placesRise s ∷ []
+
+shape-of : (s : State) → Sound.shaped s ≡ true → Shape s
+unfolding Sound.shaped
+shape-of s h =
+    let p = parts (eqb (length (s .processes)) 16) (longs s) h in
+    record {
+      processes-long = eqb-true (length (s .processes)) 16 (p .0);
+      locations-long = eqb-true (length (s .locations)) 256 (p .1 .0);
+      links-long = eqb-true (length (s .links)) 256 (p .1 .1 .0);
+      drawn-long = eqb-true (length (s .drawn)) 8 (p .1 .1 .1 .0);
+    }
+
+of-shape : (s : State) → Shape s → Sound.shaped s ≡ true
+unfolding Sound.shaped
+of-shape s f =
+    chained (eqb (length (s .processes)) 16) (longs s) (eq-eqb (length (s .processes)) 16 (f .processes-long)) (
+      eq-eqb (length (s .locations)) 256 (f .locations-long),
+      (eq-eqb (length (s .links)) 256 (f .links-long), (eq-eqb (length (s .drawn)) 8 (f .drawn-long), tt)),
+    )
+
+names-of : (s : State) → Sound.namesSound s ≡ true → Names s
+unfolding Sound.namesSound Sound.numbersInRange Sound.vmidsDrawn Sound.callsDrawn Sound.tablesDrawn Sound.vmidsApart
+names-of s h =
+    let p = parts (Sound.numbersInRange s) (nameClauses s) h in
+    record {
+      numbers-in-range =
+          λ k b. leb-true (drawnOn s k) numbers (allBelow-at 8 (λ n. leb (drawnOn s n) numbers) (p .0) k b);
+      vmids-drawn = everyRank-at _ (p .1 .0);
+      calls-drawn = everyRank-at _ (p .1 .1 .0);
+      tables-drawn = everyPair-at _ (p .1 .1 .1 .0);
+      vmids-apart = everyPair-at _ (p .1 .1 .1 .1 .0);
+    }
+
+of-names : (s : State) → Names s → Sound.namesSound s ≡ true
+unfolding Sound.namesSound Sound.numbersInRange Sound.vmidsDrawn Sound.callsDrawn Sound.tablesDrawn Sound.vmidsApart
+of-names s f =
+    chained (Sound.numbersInRange s) (nameClauses s)
+    (allBelow-of 8 (λ n. leb (drawnOn s n) numbers) (λ k b. le-leb (drawnOn s k) numbers (f .numbers-in-range k b))) (
+      everyRank-of _ (f .vmids-drawn),
+      (everyRank-of _ (f .calls-drawn), (everyPair-of _ (f .tables-drawn), (everyPair-of _ (f .vmids-apart), tt))),
+    )
+
+pairs-of : (s : State) → Sound.pairsSound s ≡ true → Pairs s
+unfolding Sound.pairsSound Sound.nothingWithSelf Sound.linesBelong Sound.plainBothSides Sound.noticeFacesNone Sound.awaitsBelong Sound.unheededIsNotice Sound.callsFit
+pairs-of s h =
+    let p = parts (Sound.nothingWithSelf s) (pairClauses s) h in
+    record {
+      nothing-with-self = everyRank-at _ (p .0);
+      lines-belong = everyPair-at _ (p .1 .0);
+      plain-both-sides = everyPair-at _ (p .1 .1 .0);
+      notice-faces-none = everyPair-at _ (p .1 .1 .1 .0);
+      awaits-belong = everyPair-at _ (p .1 .1 .1 .1 .0);
+      unheeded-is-notice = everyPair-at _ (p .1 .1 .1 .1 .1 .0);
+      calls-fit = everyPair-at _ (p .1 .1 .1 .1 .1 .1 .0);
+    }
+
+of-pairs : (s : State) → Pairs s → Sound.pairsSound s ≡ true
+unfolding Sound.pairsSound Sound.nothingWithSelf Sound.linesBelong Sound.plainBothSides Sound.noticeFacesNone Sound.awaitsBelong Sound.unheededIsNotice Sound.callsFit
+of-pairs s f =
+    chained (Sound.nothingWithSelf s) (pairClauses s) (everyRank-of _ (f .nothing-with-self)) (
+      everyPair-of _ (f .lines-belong),
+      (
+        everyPair-of _ (f .plain-both-sides),
+        (
+          everyPair-of _ (f .notice-faces-none),
+          (
+            everyPair-of _ (f .awaits-belong),
+            (everyPair-of _ (f .unheeded-is-notice), (everyPair-of _ (f .calls-fit), tt)),
+          ),
+        ),
+      ),
+    )
+
+mail-of : (s : State) → Sound.messagesSound s ≡ true → Mail s
+unfolding Sound.messagesSound Sound.fewUnread Sound.messagesNamed Sound.endsFit Sound.unheededPlaces Sound.placesFit Sound.placesRise
+mail-of s h =
+    let p = parts (Sound.fewUnread s) (mailClauses s) h in
+    let q = parts (leb (s .unread .count) limit) (eqb (length (messages s)) (s .unread .count) ∷ []) (p .0) in
+    record {
+      few = leb-true (s .unread .count) limit (q .0);
+      counted = eqb-true (length (messages s)) (s .unread .count) (q .1 .0);
+      named = p .1 .0;
+      ends-fit = p .1 .1 .0;
+      unheeded-places = p .1 .1 .1 .0;
+      places-fit = p .1 .1 .1 .1 .0;
+      places-rise = everyPair-at _ (p .1 .1 .1 .1 .1 .0);
+    }
+
+of-mail : (s : State) → Mail s → Sound.messagesSound s ≡ true
+unfolding Sound.messagesSound Sound.fewUnread Sound.messagesNamed Sound.endsFit Sound.unheededPlaces Sound.placesFit Sound.placesRise
+of-mail s f =
+    chained (Sound.fewUnread s) (mailClauses s)
+    (both (le-leb (s .unread .count) limit (f .few)) (eq-eqb (length (messages s)) (s .unread .count) (f .counted))) (
+      f .named,
+      (f .ends-fit, (f .unheeded-places, (f .places-fit, (everyPair-of _ (f .places-rise), tt)))),
+    )
+
+abbrev groups : State → List Bool
+groups s = Sound.namesSound s ∷ Sound.pairsSound s ∷ Sound.messagesSound s ∷ []
+
+-- what soundness says
+pub facts : (s : State) → sound s ≡ true → Facts s
+unfolding Sound.sound
+facts s h =
+    let p = parts (Sound.shaped s) (groups s) h in
+    record {
+      shape = shape-of s (p .0);
+      names = names-of s (p .1 .0);
+      pairs = pairs-of s (p .1 .1 .0);
+      mail = mail-of s (p .1 .1 .1 .0);
+    }
+
+-- what makes soundness
+pub of-facts : (s : State) → Facts s → sound s ≡ true
+unfolding Sound.sound
+of-facts s f =
+    chained (Sound.shaped s) (groups s) (of-shape s (f .shape))
+    (of-names s (f .names), (of-pairs s (f .pairs), (of-mail s (f .mail), tt)))
