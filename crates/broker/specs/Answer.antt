@@ -5,6 +5,7 @@ use Prim.Native.Nat.{ℕ}
 use Rattle.broker.specs.declared.answer.Answer.{Answer}
 use Rattle.broker.specs.declared.answer.Answer.the-variants.{Accepted, Refused}
 use Rattle.broker.specs.declared.answer.Refusal.{Refusal}
+use Rattle.broker.specs.declared.answer.Values.{Values}
 use Rattle.broker.specs.declared.answer.Refusal.the-variants.{Unsound, UnknownKind, CutShort, RankRange, HostRange, SameRank, NotStarted, AlreadyStarted, HasEnded, IsMigrating, NotMigrating, Connected, RequestOpen, NoRequest, NotConnected, PeerMigrating, NoNotice, SameHost, BacklogLeft, NoBacklog, NothingToDrain, NothingUnread, UnreadLeft, Full, NumbersSpent}
 
 -- the number of each row of the table of checks
@@ -44,3 +45,7 @@ number (Refused n) = refusalNumber n
 abbrev pub values : Answer → List ℕ
 values (Accepted v1 v2 v3) = v1 ∷ v2 ∷ v3 ∷ []
 values (Refused n) = 0 ∷ 0 ∷ 0 ∷ []
+
+-- the three values of a `Values`
+abbrev pub listed : Values → List ℕ
+listed v = v .0 ∷ v .1 ∷ v .2 ∷ []

@@ -1,4 +1,6 @@
 // The answer to a step. Paper 01, "Where each step is checked".
+ghost use mathlib.Core.Path.{_≡_};
+ghost use Rattle.broker.specs.Answer.{refusalNumber, number, values, listed};
 
 // Why a step is refused: the rows of the table of checks, numbers 1 to 25 in this order.
 pub enum Refusal {
@@ -32,4 +34,64 @@ pub enum Refusal {
 pub enum Answer {
     Accepted(u32, u32, u32),
     Refused(Refusal),
+}
+
+// v1, v2 and v3 of an answer.
+pub struct Values(pub u32, pub u32, pub u32);
+
+impl Refusal {
+    // The number of the table of checks.
+    pub fn number(self) -> u8
+        ensures { λ r. ⌜ r ≡ refusalNumber self ⌝ }
+    {
+        match self {
+            Refusal::Unsound => 1,
+            Refusal::UnknownKind => 2,
+            Refusal::CutShort => 3,
+            Refusal::RankRange => 4,
+            Refusal::HostRange => 5,
+            Refusal::SameRank => 6,
+            Refusal::NotStarted => 7,
+            Refusal::AlreadyStarted => 8,
+            Refusal::HasEnded => 9,
+            Refusal::IsMigrating => 10,
+            Refusal::NotMigrating => 11,
+            Refusal::Connected => 12,
+            Refusal::RequestOpen => 13,
+            Refusal::NoRequest => 14,
+            Refusal::NotConnected => 15,
+            Refusal::PeerMigrating => 16,
+            Refusal::NoNotice => 17,
+            Refusal::SameHost => 18,
+            Refusal::BacklogLeft => 19,
+            Refusal::NoBacklog => 20,
+            Refusal::NothingToDrain => 21,
+            Refusal::NothingUnread => 22,
+            Refusal::UnreadLeft => 23,
+            Refusal::Full => 24,
+            Refusal::NumbersSpent => 25,
+        }
+    }
+}
+
+impl Answer {
+    // 0 where the step was accepted, else the refusal's number.
+    pub fn number(self) -> u8
+        ensures { λ r. ⌜ r ≡ number self ⌝ }
+    {
+        match self {
+            Answer::Accepted(_, _, _) => 0,
+            Answer::Refused(n) => n.number(),
+        }
+    }
+
+    // The values of an accepted step; zeros of a refused one.
+    pub fn values(self) -> Values
+        ensures { λ r. ⌜ listed r ≡ values self ⌝ }
+    {
+        match self {
+            Answer::Accepted(v1, v2, v3) => Values(v1, v2, v3),
+            Answer::Refused(_) => Values(0, 0, 0),
+        }
+    }
 }
