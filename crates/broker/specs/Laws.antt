@@ -1,8 +1,12 @@
 -- Theorems of the definitions.
 pub mod Accepted
+pub mod Accepts
+pub mod Alike
 pub mod Cases
 pub mod Changes
 pub mod Checks
+pub mod Core
+pub mod CoreStep
 pub mod Each
 pub mod Edges
 pub mod Effect
@@ -11,9 +15,13 @@ pub mod Kept
 pub mod Leaving
 pub mod Links
 pub mod Logic
+pub mod Migrating
 pub mod Names
+pub mod Quiet
 pub mod Ranks
 pub mod Rising
 pub mod Sound
+pub mod Standings
 pub mod State
+pub mod Step
 pub mod View

@@ -7,3 +7,4 @@ pub mod ByKey
 pub mod Order
 pub mod Seek
 pub mod Pairs
+pub mod Removed

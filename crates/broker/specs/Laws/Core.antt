@@ -1,0 +1,126 @@
+-- The core of a state: standings with every migration read as done, the numbers drawn, and the unread messages with their places
+-- forgotten; and what each accepted record does to it. That this is so is `Laws/CoreStep`. Assumes nothing.
+use mathlib.Core.Path.{_≡_, refl}
+use mathlib.Core.Bool.{Bool, true}
+use mathlib.Core.List.{List, [], _∷_, _++_, map, map-map}
+use Prim.Native.Nat.{ℕ, zero, suc, _+_, _<_}
+use lib.ListN.{getD, set}
+use Rattle.transit.specs.Laws.Lists.{changeEach-keeps, select-map}
+use Rattle.transit.specs.Laws.Order.{place-order-is-list-order}
+use Rattle.transit.specs.Laws.Pairs.{values}
+use Rattle.transit.specs.Laws.Tests.{by-test}
+use Rattle.transit.specs.Lists.{without}
+use Rattle.transit.specs.Message.{between, picks, placeOrder, relabelled}
+use Rattle.transit.specs.Unread.{eachTo, firstTo}
+use Rattle.transit.specs.declared.Message.{Message}
+use Rattle.transit.specs.declared.Place.{Place}
+use Rattle.transit.specs.declared.Place.the-variants.{List as EndList}
+use Rattle.transit.specs.declared.Rank.{Rank}
+use Rattle.transit.specs.declared.Selection.{Selection}
+use Rattle.transit.specs.declared.Selection.the-variants.{Between}
+use Rattle.broker.specs.Laws.Sound.{facts}
+use Rattle.broker.specs.Laws.Standings.{standings, standing-at}
+use Rattle.broker.specs.Names.{vmid, endpoint}
+use Rattle.broker.specs.Sound.{sound}
+use Rattle.broker.specs.State.{State, status, messages}
+use Rattle.broker.specs.declared.process.Status.{Status}
+use Rattle.broker.specs.declared.process.Status.the-variants.{Unstarted, Running, Migrating, Ended}
+use Rattle.broker.specs.declared.record.Record.{Record}
+use Rattle.broker.specs.declared.record.Record.the-variants.{Start, Call, Route, Send, Take, Move, Heed, Drain, Land, Part, End, Look}
+
+-- a standing with its migration read as done
+abbrev pub settled : Status → Status
+settled Unstarted = Unstarted
+settled (Running v) = Running v
+settled (Migrating source target) = Running target
+settled (Ended v) = Ended v
+
+-- a message with its place forgotten: all are at one place
+abbrev pub letter : Message → Message
+letter m = relabelled EndList m
+
+pub record Core : Type 0 where
+  pub statuses : List Status
+  pub drawn : List ℕ
+  pub letters : List Message
+
+abbrev pub core : State → Core
+core s =
+    record {
+      statuses = standings settled s;
+      drawn = s .drawn;
+      letters = map letter (messages s);
+    }
+
+-- the core with the standing of r changed, and with other letters
+abbrev pub withStanding : Rank → Status → Core → Core
+withStanding r t c = record { statuses = set (c .statuses) (r .0) t; drawn = c .drawn; letters = c .letters }
+
+abbrev pub withLetters : List Message → Core → Core
+withLetters l c = record { statuses = c .statuses; drawn = c .drawn; letters = l }
+
+-- r comes to run under the next number of h
+abbrev pub arrives : Rank → ℕ → Core → Core
+arrives r h c =
+    let n = getD (c .drawn) h 0 + 1 in
+    withStanding r (Running (vmid h n)) (record { statuses = c .statuses; drawn = set (c .drawn) h n; letters = c .letters })
+
+-- what an accepted record does to the core: a move does what a start does, and seven kinds do nothing
+abbrev pub coreStep : Record → Core → Core
+coreStep (Start r h) c = arrives r h c
+coreStep (Call a b) c = c
+coreStep (Route a b) c = c
+coreStep (Send a b v) c =
+    withLetters (c .letters ++ record { sender = a; receiver = b; value = v; place = EndList } ∷ []) c
+coreStep (Take b a) c = withLetters (without (between a b) (c .letters)) c
+coreStep (Move r h) c = arrives r h c
+coreStep (Heed b r) c = c
+coreStep (Drain r p) c = c
+coreStep (Land r) c = c
+coreStep (Part a b) c = c
+coreStep (End r) c = withStanding r (Ended (endpoint (getD (c .statuses) (r .0) Unstarted))) c
+coreStep (Look r) c = c
+
+-- the values of a pair's letters, in order
+abbrev pub valuesBetween : Rank → Rank → Core → List ℕ
+valuesBetween a b c = values a b (c .letters)
+
+-- A list of images after a store.
+pub map-set : {A B : Type 0} (f : A → B) (l : List A) (i : ℕ) (x : A) → map f (set l i x) ≡ set (map f l) i (f x)
+map-set f [] i x = refl
+map-set f (y ∷ l) zero x = refl
+map-set f (y ∷ l) (suc i) x = rw (map-set f l i x)
+
+-- A list of images without the first that passes.
+pub without-map : {A : Type 0} (f : A → A) (p : A → Bool) → ((x : A) → p (f x) ≡ p x) → (l : List A) → map f (without p l) ≡ without p (map f l)
+without-map f p kept [] = refl
+without-map f p kept (x ∷ l) =
+    by-test (p x) (λ e. simp (kept x, e)) (λ e. simp (kept x, e, without-map f p kept l))
+
+-- Changes of place, of all that are selected or of the first, leave the letters.
+pub eachTo-letters : (s : Selection) (p : Place) (l : List Message) → map letter (eachTo s p l) ≡ map letter l
+eachTo-letters s p [] = refl
+eachTo-letters s p (m ∷ l) = rw (changeEach-keeps letter (picks s) (relabelled p) (λ x. refl) m, eachTo-letters s p l)
+
+pub firstTo-letters : (s : Selection) (p : Place) (l : List Message) → map letter (firstTo s p l) ≡ map letter l
+firstTo-letters s p [] = refl
+firstTo-letters s p (m ∷ l) = by-test (picks s m) (λ e. rw e) (λ e. rw (e, firstTo-letters s p l))
+
+-- A rank's standing in the core is its standing, settled, and its current end is the same.
+pub core-status : (s : State) (r : Rank) → getD (core s .statuses) (r .0) Unstarted ≡ settled (status s r)
+core-status s r = standing-at settled s r
+
+pub endpoint-settled : (t : Status) → endpoint (settled t) ≡ endpoint t
+endpoint-settled Unstarted = refl
+endpoint-settled (Running v) = refl
+endpoint-settled (Migrating v w) = refl
+endpoint-settled (Ended v) = refl
+
+-- In a sound state place order is the order of sending, so the values that are unread are those of the letters.
+pub unread-values : (s : State) (a b : Rank) → sound s ≡ true → a .0 < 16 → b .0 < 16 → map (λ (m : Message). m .value) (placeOrder (Between a b) (messages s)) ≡ valuesBetween a b (core s)
+unread-values s a b h ha hb =
+    rw (
+      place-order-is-list-order (Between a b) (messages s) (facts s h .mail .places-rise a b ha hb),
+      select-map (between a b) letter (λ m. refl) (messages s),
+      map-map,
+    )

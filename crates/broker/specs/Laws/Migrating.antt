@@ -1,0 +1,86 @@
+-- Who migrates: an accepted move makes its rank migrate, its accepted landing ends that, and no other record changes it. Paper 01, "Lists
+-- of steps": "A move is open from its accepted 06 until its accepted 09." Assumes nothing.
+use mathlib.Core.Path.{_≡_, refl, sym, ap, _∙_}
+use mathlib.Core.Bool.{Bool, true, false, cond, _&&_}
+use mathlib.Core.List.{List, [], _∷_}
+use mathlib.Core.Option.{none}
+use Prim.Native.Nat.{_<_}
+use lib.ListN.{getD}
+use Rattle.transit.specs.Laws.Tests.{by-test}
+use Rattle.transit.specs.Message.{sameRank}
+use Rattle.transit.specs.declared.Rank.{Rank}
+use Rattle.broker.specs.Checks.{is, refusal}
+use Rattle.broker.specs.Connect.{call, route, part}
+use Rattle.broker.specs.Kind
+use Rattle.broker.specs.Laws.Accepted.{start-fits, move-fits, land-fits, end-fits, running-not-migrating}
+use Rattle.broker.specs.Laws.Cases.{drain-cases}
+use Rattle.broker.specs.Laws.Checks.{passes}
+use Rattle.broker.specs.Laws.Logic.{not-both}
+use Rattle.broker.specs.Laws.Sound.{facts}
+use Rattle.broker.specs.Laws.Standings.{standings, standing-at, standings-with-status, standings-with-request, call-unseen, route-unseen}
+use Rattle.broker.specs.Laws.State.{status-with}
+use Rattle.broker.specs.Life.{start, end, nextVmid}
+use Rattle.broker.specs.Messages.{send, take, look}
+use Rattle.broker.specs.Migrate.{move, heed, land}
+use Rattle.broker.specs.Names.{endpoint, isStarted, isMigrating}
+use Rattle.broker.specs.Record.{firstRank}
+use Rattle.broker.specs.Sound.{sound}
+use Rattle.broker.specs.State.{State, status, withStatus}
+use Rattle.broker.specs.Step.{apply}
+use Rattle.broker.specs.declared.process.Status.{Status}
+use Rattle.broker.specs.declared.process.Status.the-variants.{Unstarted, Running, Migrating, Ended}
+use Rattle.broker.specs.declared.record.Record.{Record}
+use Rattle.broker.specs.declared.record.Record.the-variants.{Start, Call, Route, Send, Take, Move, Heed, Drain, Land, Part, End, Look}
+
+-- whether a move of r is open after an accepted record, by whether one was open before
+abbrev pub openAfter : Rank → Bool → Record → Bool
+openAfter r before x =
+    cond (is (Kind.move ∷ []) x && sameRank r (firstRank x)) true
+    (cond (is (Kind.land ∷ []) x && sameRank r (firstRank x)) false before)
+
+same-movers : (s t : State) (r : Rank) → standings isMigrating t ≡ standings isMigrating s → isMigrating (status t r) ≡ isMigrating (status s r)
+same-movers s t r e =
+    sym (standing-at isMigrating t r) ∙ ap (λ (l : List Bool). getD l (r .0) false) e ∙ standing-at isMigrating s r
+
+unstarted-not-migrating : (t : Status) → isStarted t ≡ false → isMigrating t ≡ false
+unstarted-not-migrating Unstarted h = refl
+unstarted-not-migrating (Running v) h = refl
+unstarted-not-migrating (Migrating v w) h = absurd (not-both refl h)
+unstarted-not-migrating (Ended v) h = refl
+
+-- The rank of an accepted record comes to stand so.
+module _ (s y : State) (p : Rank) (t : Status) (h : sound s ≡ true) (hp : p .0 < 16) (same : y .processes ≡ withStatus p t s .processes) where
+  migrates-as : (r : Rank) → isMigrating (status y r) ≡ cond (sameRank r p) (isMigrating t) (isMigrating (status s r))
+  migrates-as r =
+      rw (same, status-with s p r t (facts s h .shape .processes-long) hp)
+      (by-test (sameRank r p) (λ e. rw e) (λ e. rw e))
+
+pub migrating-step : (named : Rank) (s : State) (x : Record) (r : Rank) → sound s ≡ true → refusal s x ≡ none → isMigrating (status (apply named x s .state) r) ≡ openAfter r (isMigrating (status s r)) x
+unfolding apply start send take move heed land part end look
+migrating-step named s (Start p h) r sd k =
+    let f = start-fits s p h (passes s (Start p h) k) in
+    same-movers s (start p h s .state) r
+    (standings-with-status isMigrating s p (Running (nextVmid s h)) (sym (unstarted-not-migrating (status s p) (f .unstarted))))
+migrating-step named s (Call a b) r sd k =
+    same-movers s (call a b s .state) r
+    (call-unseen (standings isMigrating) (standings-with-request isMigrating) (λ t ls. refl) (λ t vs. refl) a b s)
+migrating-step named s (Route a b) r sd k =
+    same-movers s (route a b s .state) r
+    (route-unseen (standings isMigrating) (standings-with-request isMigrating) (λ t ls. refl) (λ t vs. refl) a b s)
+migrating-step named s (Send a b v) r sd k = refl
+migrating-step named s (Take b a) r sd k = refl
+migrating-step named s (Move p h) r sd k =
+    let f = move-fits s p h (passes s (Move p h) k) in
+    migrates-as s (move p h s .state) p (Migrating (endpoint (status s p)) (nextVmid s h)) sd (f .one .in-range) refl r
+migrating-step named s (Heed b p) r sd k = refl
+migrating-step named s (Drain p q) r sd k =
+    drain-cases (λ t. isMigrating (status t r) ≡ isMigrating (status s r)) p q s refl refl
+migrating-step named s (Land p) r sd k =
+    let f = land-fits s p (passes s (Land p) k) in
+    migrates-as s (land p s .state) p (Running (endpoint (status s p))) sd (f .one .in-range) refl r
+migrating-step named s (Part a b) r sd k = refl
+migrating-step named s (End p) r sd k =
+    let f = end-fits s p (passes s (End p) k) in
+    same-movers s (end p s .state) r
+    (standings-with-status isMigrating s p (Ended (endpoint (status s p))) (sym (running-not-migrating (status s p) (f .running))))
+migrating-step named s (Look p) r sd k = refl
