@@ -1,0 +1,71 @@
+-- Lists of steps: what a step adds to the accepted ones, and induction along a list, in which a refused step changes nothing.
+-- Assumes nothing.
+use mathlib.Core.Path.{_≡_, sym, subst₂}
+use mathlib.Core.Bool.{true}
+use mathlib.Core.List.{List, [], _∷_, _++_}
+use mathlib.Core.Option.{none}
+use Prim.Native.Nat.{ℕ}
+use Rattle.transit.specs.Laws.Tests.{by-test}
+use Rattle.transit.specs.declared.Rank.{Rank}
+use Rattle.broker.specs.Checks.{refusal}
+use Rattle.broker.specs.Laws.Edges.{fresh-is-sound}
+use Rattle.broker.specs.Laws.Kept.{sound-kept}
+use Rattle.broker.specs.Laws.Logic.{true-of}
+use Rattle.broker.specs.Laws.Step.{Course, turned-away, carried-out, course, pastRecord, step-accepted}
+use Rattle.broker.specs.Record.{decode}
+use Rattle.broker.specs.Sound.{sound}
+use Rattle.broker.specs.State.{State, fresh}
+use Rattle.broker.specs.Step.{apply}
+use Rattle.broker.specs.declared.record.Decoded.the-variants.{Whole}
+use Rattle.broker.specs.declared.record.Record.{Record}
+use Rattle.ordering.specs.Claim.{Reading, Entry, after, accepted, isSend, isTake, sent, taken, isFive, fiveKinds}
+
+pub fresh-sound : sound fresh ≡ true
+fresh-sound = true-of (sound fresh) fresh-is-sound
+
+-- the entry of an accepted record
+abbrev pub entry : Rank → Record → State → Entry
+entry named r s = record { read = r; v1 = apply named r s .v1 }
+
+-- What one entry adds in front.
+pub sent-cons : (a b : Rank) (e : Entry) (es : List Entry) → sent a b (e ∷ es) ≡ sent a b (e ∷ []) ++ sent a b es
+sent-cons a b e es = by-test (isSend a b e) (λ t. rw t) (λ t. rw t)
+
+pub taken-cons : (a b : Rank) (e : Entry) (es : List Entry) → taken a b (e ∷ es) ≡ taken a b (e ∷ []) ++ taken a b es
+taken-cons a b e es = by-test (isTake a b e) (λ t. rw t) (λ t. rw t)
+
+pub five-cons : (e : Entry) (es : List Entry) → fiveKinds (e ∷ es) ≡ fiveKinds (e ∷ []) ++ fiveKinds es
+five-cons e es = by-test (isFive (e .read)) (λ t. rw t) (λ t. rw t)
+
+-- A step that is carried out adds its entry, and the list goes on from the state that it leaves.
+module _ (s : State) (x : Reading) (xs : List Reading) (r : Record) (next : ℕ) (h : sound s ≡ true) (reads : decode (x .log) (x .at) ≡ Whole r next) (p : refusal s r ≡ none) where
+  pub carried-enters : accepted s (x ∷ xs) ≡ entry (x .named) r s ∷ accepted (apply (x .named) r s .state) xs
+  carried-enters = rw (step-accepted (x .named) s (x .log) (x .at) r next h reads p, reads)
+
+  pub carried-leaves : after s (x ∷ xs) ≡ after (apply (x .named) r s .state) xs
+  carried-leaves = rw (step-accepted (x .named) s (x .log) (x .at) r next h reads p)
+
+-- What holds of no steps, and of one accepted step more in front, holds of every list of steps from a sound state.
+module _
+    (P : State → List Entry → State → Type 0)
+    (no-steps : (s : State) → sound s ≡ true → P s [] s)
+    (one-more : (s : State) (x : Reading) (r : Record) (next : ℕ) → sound s ≡ true → decode (x .log) (x .at) ≡ Whole r next → refusal s r ≡ none → (es : List Entry) (end : State) → P (apply (x .named) r s .state) es end → P s (entry (x .named) r s ∷ es) end)
+  where
+    pub along : (xs : List Reading) (s : State) → sound s ≡ true → P s (accepted s xs) (after s xs)
+    along [] s h = no-steps s h
+    along (x ∷ xs) s h = at (course (x .named) s (x .log) (x .at)) (along xs)
+      where
+        at : Course (x .named) s (x .log) (x .at) → ((t : State) → sound t ≡ true → P t (accepted t xs) (after t xs)) → P s (accepted s (x ∷ xs)) (after s (x ∷ xs))
+        at (turned-away n t) rest =
+            let enters : accepted s (x ∷ xs) ≡ accepted s xs = rw t in
+            let leaves : after s (x ∷ xs) ≡ after s xs = rw t in
+            subst₂ (P s) (sym enters) (sym leaves) (rest s h)
+        at (carried-out r k reads p t) rest =
+            let next = pastRecord (x .log) (x .at) in
+            let s′ = apply (x .named) r s .state in
+            subst₂ (P s) (sym (carried-enters s x xs r next h reads p)) (sym (carried-leaves s x xs r next h reads p))
+            (one-more s x r next h reads p (accepted s′ xs) (after s′ xs) (rest s′ (sound-kept (x .named) s r h p)))
+
+-- A list of steps keeps a sound state sound.
+pub sound-after : (xs : List Reading) (s : State) → sound s ≡ true → sound (after s xs) ≡ true
+sound-after = along (λ s es end. sound end ≡ true) (λ s h. h) (λ s x r next h reads p es end rest. rest)

@@ -1,0 +1,103 @@
+-- The second half of the ordering claim: the second list, step by step along the first, and what the two lists leave.
+-- Assumes nothing.
+use mathlib.Core.Path.{_≡_, refl, sym, ap, subst, _∙_}
+use mathlib.Core.Bool.{true}
+use mathlib.Core.List.{List, [], _∷_}
+use mathlib.Core.Option.{none}
+use Prim.Native.Nat.{ℕ}
+use lib.ListN.{getD-replicate}
+use Rattle.broker.specs.Checks.{refusal}
+use Rattle.broker.specs.Laws.Alike.{settled-unless-migrating, status-alike, same-standings}
+use Rattle.broker.specs.Laws.Core.{core, coreStep, valuesBetween, unread-values}
+use Rattle.broker.specs.Laws.CoreStep.{core-step}
+use Rattle.broker.specs.Laws.Logic.{not-true}
+use Rattle.broker.specs.Laws.Quiet.{Quiet}
+use Rattle.broker.specs.Laws.Ranks.{everyRank-at}
+use Rattle.broker.specs.Laws.State.{cell-below}
+use Rattle.broker.specs.Names.{isMigrating}
+use Rattle.broker.specs.Record.{decode}
+use Rattle.broker.specs.Sound.{sound}
+use Rattle.broker.specs.State.{State, idle, apart, cell, fresh, status}
+use Rattle.broker.specs.Step.{apply}
+use Rattle.broker.specs.declared.process.Process.{Process}
+use Rattle.broker.specs.declared.record.Decoded.the-variants.{Whole}
+use Rattle.broker.specs.declared.record.Record.{Record}
+use Rattle.broker.specs.declared.record.Record.the-variants.{Start, Call, Route, Send, Take, Move, Heed, Drain, Land, Part, End, Look}
+use Rattle.ordering.specs.Claim.{Reading, Entry, after, accepted, taken, fiveKinds, SecondHalf}
+use Rattle.ordering.specs.Following.{Following, nothing-follows, follows-as}
+use Rattle.ordering.specs.Runs.{fresh-sound, entry, taken-cons, five-cons, along, sound-after}
+use Rattle.ordering.specs.Sends.{send-stands}
+use Rattle.ordering.specs.Stands.{Standing, nothing-stands, start-stands, take-stands, move-stands, end-stands}
+
+-- What stands for any accepted step.
+stands : (s q : State) (x : Reading) (r : Record) (next : ℕ) → sound s ≡ true → Quiet q → core q ≡ core s → decode (x .log) (x .at) ≡ Whole r next → refusal s r ≡ none → Standing s q x r
+stands s q x (Start r h) next hs quiet same reads p = start-stands s q x next quiet same r h reads p
+stands s q x (Call a b) next hs quiet same reads p = nothing-stands s q x (Call a b) quiet refl refl (λ c d. refl)
+stands s q x (Route a b) next hs quiet same reads p = nothing-stands s q x (Route a b) quiet refl refl (λ c d. refl)
+stands s q x (Send a b v) next hs quiet same reads p = send-stands s a b v hs p q x next quiet same reads
+stands s q x (Take b a) next hs quiet same reads p = take-stands s q x next quiet same b a hs reads p
+stands s q x (Move r h) next hs quiet same reads p = move-stands s q x next quiet same r h reads p
+stands s q x (Heed b r) next hs quiet same reads p = nothing-stands s q x (Heed b r) quiet refl refl (λ c d. refl)
+stands s q x (Drain r t) next hs quiet same reads p = nothing-stands s q x (Drain r t) quiet refl refl (λ c d. refl)
+stands s q x (Land r) next hs quiet same reads p = nothing-stands s q x (Land r) quiet refl refl (λ c d. refl)
+stands s q x (Part a b) next hs quiet same reads p = nothing-stands s q x (Part a b) quiet refl refl (λ c d. refl)
+stands s q x (End r) next hs quiet same reads p = end-stands s q x next quiet same r reads p
+stands s q x (Look r) next hs quiet same reads p = nothing-stands s q x (Look r) quiet refl refl (λ c d. refl)
+
+-- from any quiet state with the core of s, a list with the five kinds and the takes of the entries, that leaves the core of the end
+abbrev Followed : State → List Entry → State → Type 0
+Followed s es end =
+    (q : State) → Quiet q → core q ≡ core s → Following none q (fiveKinds es) (λ a b. taken a b es) (core end)
+
+step-followed : (s : State) (x : Reading) (r : Record) (next : ℕ) → sound s ≡ true → decode (x .log) (x .at) ≡ Whole r next → refusal s r ≡ none → (es : List Entry) (end : State) → Followed (apply (x .named) r s .state) es end → Followed s (entry (x .named) r s ∷ es) end
+step-followed s x r next h reads p es end rest q quiet same =
+    let e = entry (x .named) r s in
+    let now = stands s q x r next h quiet same reads p in
+    let same′ = now .alike ∙ ap (coreStep r) same ∙ sym (core-step (x .named) s r h p) in
+    rw (five-cons e es)
+    (follows-as (λ a b. sym (taken-cons a b e es))
+    (now .follows (fiveKinds es) (λ a b. taken a b es) (core end) (rest (now .then) (now .quiet) same′)))
+
+-- Every list from a sound state is followed.
+followed : (xs : List Reading) (s : State) → sound s ≡ true → Followed s (accepted s xs) (after s xs)
+followed =
+    along Followed
+    (λ s h q quiet same. subst (Following none q [] (λ a b. [])) same (nothing-follows q quiet))
+    step-followed
+
+-- The fresh state is quiet.
+fresh-quiet : Quiet fresh
+fresh-quiet =
+    record {
+      is-sound = fresh-sound;
+      calm =
+          record {
+            processes-long = refl;
+            links-long = refl;
+            migrating = λ r hr. ap (λ (p : Process). isMigrating (p .status)) (getD-replicate 16 (r .0) idle idle hr);
+            requests = λ r hr. ap (λ (p : Process). p .request) (getD-replicate 16 (r .0) idle idle hr);
+            links = λ a b ha hb. getD-replicate 256 (cell a b) apart apart (cell-below a b ha hb);
+          };
+    }
+
+pub second-half : SecondHalf
+second-half xs landed =
+    let f = followed xs fresh fresh-sound fresh fresh-quiet refl in
+    let end = after fresh xs in
+    let end′ = after fresh (f .list) in
+    record {
+      list = f .list;
+      all-accepted = f .all-accepted;
+      moves-unbroken = f .moves-unbroken;
+      same-steps = f .same-five;
+      same-taken = f .same-taken;
+      same-unread =
+          λ a b ha hb.
+          unread-values end′ a b (f .ends-quiet .is-sound) ha hb ∙
+          ap (valuesBetween a b) (f .ends-alike) ∙
+          sym (unread-values end a b (sound-after xs fresh fresh-sound) ha hb);
+      same-status =
+          λ r hr.
+          status-alike end end′ (same-standings (f .ends-alike)) (f .ends-quiet .calm) r hr ∙
+          settled-unless-migrating (status end r) (not-true (isMigrating (status end r)) (everyRank-at _ landed r hr));
+    }

@@ -1,0 +1,133 @@
+-- What stands in the second list for a send: a call, its route, once more where the posted vmid was not the current end, the send, and the
+-- parting. Assumes nothing.
+use mathlib.Core.Path.{_≡_, refl, sym, ap, _∙_}
+use mathlib.Core.Bool.{true, false}
+use mathlib.Core.List.{List, _∷_}
+use mathlib.Core.Option.{none}
+use Prim.Native.Nat.{ℕ}
+use Rattle.transit.specs.Laws.Tests.{by-test}
+use Rattle.transit.specs.declared.Rank.{Rank}
+use Rattle.broker.specs.Checks.{refusal}
+use Rattle.broker.specs.Kind
+use Rattle.broker.specs.Laws.Accepted.{Two, send-fits}
+use Rattle.broker.specs.Laws.Alike.{call-before, route-before, send-again, part-behind, receiver-runs, status-alike, same-standings}
+use Rattle.broker.specs.Laws.Checks.{passes}
+use Rattle.broker.specs.Laws.Core.{Core, core, coreStep}
+use Rattle.broker.specs.Laws.CoreStep.{core-step}
+use Rattle.broker.specs.Laws.Kept.{sound-kept}
+use Rattle.broker.specs.Laws.Quiet.{Calling, Joined, Quiet, sameVmid-self, call-calm, route-corrects, route-joins, send-calm, part-calm}
+use Rattle.broker.specs.Names.{sameVmid, endpoint, isEnded}
+use Rattle.broker.specs.Ranks.{rank}
+use Rattle.broker.specs.Record.{decode}
+use Rattle.broker.specs.Sound.{sound}
+use Rattle.broker.specs.State.{State, status, location}
+use Rattle.broker.specs.Step.{apply}
+use Rattle.broker.specs.declared.process.Status.{Status}
+use Rattle.broker.specs.declared.process.Vmid.{Vmid}
+use Rattle.broker.specs.declared.record.Decoded.the-variants.{Whole}
+use Rattle.broker.specs.declared.record.Record.{Record}
+use Rattle.broker.specs.declared.record.Record.the-variants.{Call, Route, Send, Part}
+use Rattle.ordering.specs.Claim.{Reading}
+use Rattle.ordering.specs.Following.{Following, step-follows}
+use Rattle.ordering.specs.Stands.{Standing, ofTwo, quiet-after}
+
+-- A send that s accepts, from a state with the same core.
+module _ (s : State) (a b : Rank) (v : ℕ) (hs : sound s ≡ true) (p : refusal s (Send a b v) ≡ none) where
+  two : Two s a b
+  two = send-fits s a b v (passes s (Send a b v) p) .two
+
+  -- the routes of a call, to a state in which the two ranks are joined: none of the five kinds, and no take
+  record Way (x : State) : Type 0 where
+    then : State
+    is-sound : sound then ≡ true
+    joined : Joined then a b
+    alike : core then ≡ core s
+    follows : (five : List Record) (takes : Rank → Rank → List ℕ) (c : Core) → Following none then five takes c → Following none x five takes c
+
+  -- One route.
+  module _ (x : State) (u : Vmid) (calling : Calling x a b u) (h : sound x ≡ true) (same : core x ≡ core s) where
+    routed : State
+    routed = apply (rank 0) (Route a b) x .state
+
+    routes : refusal x (Route a b) ≡ none
+    routes = route-before s a b v p x (same-standings same) u calling
+
+    runs : isEnded (status x b) ≡ false
+    runs = receiver-runs s a b v p x (same-standings same) calling hs
+
+    routed-sound : sound routed ≡ true
+    unfolding routed
+    routed-sound = sound-kept (rank 0) x (Route a b) h routes
+
+    routed-alike : core routed ≡ core s
+    unfolding routed
+    routed-alike = core-step (rank 0) x (Route a b) h routes ∙ same
+
+    routed-follows : (five : List Record) (takes : Rank → Rank → List ℕ) (c : Core) → Following none routed five takes c → Following none x five takes c
+    unfolding routed decode
+    routed-follows five takes c f = step-follows x (ofTwo Kind.route a b) (Route a b) 3 refl h routes (λ l. refl) f
+
+    -- A call that is posted to the current end is routed there.
+    joins : sameVmid u (endpoint (status x b)) ≡ true → Way x
+    unfolding routed apply
+    joins e =
+        record {
+          then = routed;
+          is-sound = routed-sound;
+          joined = route-joins x a b u calling (two .first) (two .second) runs e;
+          alike = routed-alike;
+          follows = routed-follows;
+        }
+
+    -- Any other call is posted to the current end afterwards.
+    corrects : sameVmid u (endpoint (status x b)) ≡ false → Calling routed a b (endpoint (status x b))
+    unfolding routed apply
+    corrects e = route-corrects x a b u calling (two .first) (two .second) runs e
+
+  -- A call is routed once, or twice.
+  way : (x : State) (u : Vmid) → Calling x a b u → sound x ≡ true → core x ≡ core s → Way x
+  way x u calling h same =
+      by-test (sameVmid u (endpoint (status x b)))
+      (joins x u calling h same)
+      (λ e.
+      let y = routed x u calling h same in
+      let again : Calling y a b (endpoint (status x b)) = corrects x u calling h same e in
+      let same′ : core y ≡ core s = routed-alike x u calling h same in
+      let still : status y b ≡ status x b =
+      status-alike s y (same-standings same′) again b (two .second) ∙ sym (status-alike s x (same-standings same) calling b (two .second)) in
+      let current = ap (λ (t : Status). sameVmid (endpoint (status x b)) (endpoint t)) still ∙ sameVmid-self (endpoint (status x b)) in
+      let w = joins y (endpoint (status x b)) again (routed-sound x u calling h same) same′ current in
+      record {
+        then = w .then;
+        is-sound = w .is-sound;
+        joined = w .joined;
+        alike = w .alike;
+        follows = λ five takes c f. routed-follows x u calling h same five takes c (w .follows five takes c f);
+      })
+
+  pub send-stands : (q : State) (x : Reading) (next : ℕ) → Quiet q → core q ≡ core s → decode (x .log) (x .at) ≡ Whole (Send a b v) next → Standing s q x (Send a b v)
+  unfolding apply decode
+  send-stands q x next quiet same reads =
+      let calls = call-before s a b v p q (same-standings same) (quiet .calm) in
+      let called = apply (rank 0) (Call a b) q .state in
+      let called-sound = sound-kept (rank 0) q (Call a b) (quiet .is-sound) calls in
+      let calling : Calling called a b (location q a b) = call-calm q a b (quiet .calm) (two .first) in
+      let w = way called (location q a b) calling called-sound (core-step (rank 0) q (Call a b) (quiet .is-sound) calls ∙ same) in
+      let sends = send-again s a b v p (w .then) (same-standings (w .alike)) (w .joined) (w .alike) (w .is-sound) hs in
+      let sent = apply (x .named) (Send a b v) (w .then) .state in
+      let sent-sound = sound-kept (x .named) (w .then) (Send a b v) (w .is-sound) sends in
+      let sent-joined : Joined sent a b = send-calm (w .then) a b v (w .joined) in
+      let sent-core : core sent ≡ coreStep (Send a b v) (core s) =
+      core-step (x .named) (w .then) (Send a b v) (w .is-sound) sends ∙ ap (coreStep (Send a b v)) (w .alike) in
+      let parts = part-behind s a b v p sent (same-standings sent-core) sent-joined in
+      record {
+        then = apply (rank 0) (Part a b) sent .state;
+        quiet = quiet-after (rank 0) sent (Part a b) sent-sound parts (part-calm sent a b sent-joined (two .first) (two .second));
+        alike = core-step (rank 0) sent (Part a b) sent-sound parts ∙ sent-core ∙ ap (coreStep (Send a b v)) (sym same);
+        follows =
+            λ fs ts c f.
+            step-follows q (ofTwo Kind.call a b) (Call a b) 3 refl (quiet .is-sound) calls (λ l. refl)
+            (w .follows (Send a b v ∷ fs) ts c
+            (step-follows (w .then) x (Send a b v) next reads (w .is-sound) sends (λ l. refl)
+            (step-follows sent (ofTwo Kind.part a b) (Part a b) 3 refl sent-sound parts (λ l. refl) f)));
+      }

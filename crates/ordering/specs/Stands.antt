@@ -1,0 +1,115 @@
+-- What stands in the second list for one accepted step of the first: nothing, the step itself, or a move and its landing at once. What
+-- stands for a send is `Sends`. Assumes nothing.
+use mathlib.Core.Path.{_≡_, refl, sym, ap, _∙_}
+use mathlib.Core.Bool.{true}
+use mathlib.Core.List.{List, [], _∷_, _++_, head-eq-of-cons-eq}
+use mathlib.Core.Option.{none, some}
+use Prim.Native.Nat.{ℕ}
+use Rattle.transit.specs.declared.Rank.{Rank}
+use Rattle.broker.specs.Checks.{refusal}
+use Rattle.broker.specs.Kind
+use Rattle.broker.specs.Laws.Accepted.{start-fits, take-fits, move-fits, end-fits}
+use Rattle.broker.specs.Laws.Alike.{start-again, take-again, move-again, end-again, land-after}
+use Rattle.broker.specs.Laws.Checks.{passes}
+use Rattle.broker.specs.Laws.Core.{Core, core, coreStep, valuesBetween}
+use Rattle.broker.specs.Laws.CoreStep.{core-step, take-value}
+use Rattle.broker.specs.Laws.Kept.{sound-kept}
+use Rattle.broker.specs.Laws.Quiet.{AllQuiet, Moving, Quiet, start-calm, take-calm, end-calm, move-calm, land-calm}
+use Rattle.broker.specs.Laws.State.{sameRank-self}
+use Rattle.broker.specs.Ranks.{rank}
+use Rattle.broker.specs.Record.{decode}
+use Rattle.broker.specs.Sound.{sound}
+use Rattle.broker.specs.State.{State}
+use Rattle.broker.specs.Step.{apply}
+use Rattle.broker.specs.declared.record.Decoded.the-variants.{Whole}
+use Rattle.broker.specs.declared.record.Record.{Record}
+use Rattle.broker.specs.declared.record.Record.the-variants.{Start, Take, Move, Land, End}
+use Rattle.ordering.specs.Claim.{Reading, taken, fiveKinds}
+use Rattle.ordering.specs.Following.{Following, Leads, step-follows, follows-as}
+use Rattle.ordering.specs.Runs.{entry}
+
+-- a log of one record, read at its start, that names one rank, or two
+abbrev pub ofOne : ℕ → Rank → Reading
+ofOne kind r = record { log = kind ∷ r .0 ∷ []; at = 0; named = rank 0 }
+
+abbrev pub ofTwo : ℕ → Rank → Rank → Reading
+ofTwo kind a b = record { log = kind ∷ a .0 ∷ b .0 ∷ []; at = 0; named = rank 0 }
+
+-- what stands for a record that s accepts: from q to a quiet state, whose core is changed as the record changes it
+pub record Standing (s q : State) (x : Reading) (r : Record) : Type 0 where
+  pub then : State
+  pub quiet : Quiet then
+  pub alike : core then ≡ coreStep r (core q)
+  pub follows : (five : List Record) (takes : Rank → Rank → List ℕ) (c : Core) → Following none then five takes c
+      → Following none q (fiveKinds (entry (x .named) r s ∷ []) ++ five) (λ a b. taken a b (entry (x .named) r s ∷ []) ++ takes a b) c
+
+-- Nothing stands for a record that leaves the core and is none of the five.
+pub nothing-stands : (s q : State) (x : Reading) (r : Record) → Quiet q → coreStep r (core q) ≡ core q → fiveKinds (entry (x .named) r s ∷ []) ≡ [] → ((a b : Rank) → taken a b (entry (x .named) r s ∷ []) ≡ []) → Standing s q x r
+nothing-stands s q x r quiet same five takes =
+    record {
+      then = q;
+      quiet = quiet;
+      alike = sym same;
+      follows = λ fs ts c f. rw five (follows-as (λ a b. rw (takes a b)) f);
+    }
+
+-- A state that is calm behind an accepted record is quiet.
+pub quiet-after : (named : Rank) (q : State) (r : Record) → sound q ≡ true → refusal q r ≡ none → AllQuiet (apply named r q .state) → Quiet (apply named r q .state)
+quiet-after named q r h p calm = record { is-sound = sound-kept named q r h p; calm = calm }
+
+module _ (s q : State) (x : Reading) (next : ℕ) (quiet : Quiet q) (same : core q ≡ core s) where
+  -- The record stands as it is, where it is accepted from q, leaves all calm, and takes what it takes from s.
+  itself-stands : (r : Record) → decode (x .log) (x .at) ≡ Whole r next → refusal q r ≡ none → Leads none r none → ((a b : Rank) → taken a b (entry (x .named) r q ∷ []) ≡ taken a b (entry (x .named) r s ∷ [])) → AllQuiet (apply (x .named) r q .state) → Standing s q x r
+  itself-stands r reads p leads takes calm =
+      record {
+        then = apply (x .named) r q .state;
+        quiet = quiet-after (x .named) q r (quiet .is-sound) p calm;
+        alike = core-step (x .named) q r (quiet .is-sound) p;
+        follows =
+            λ fs ts c f.
+            follows-as (λ a b. ap (λ (l : List ℕ). l ++ ts a b) (takes a b))
+            (step-follows q x r next reads (quiet .is-sound) p leads f);
+      }
+
+  pub start-stands : (r : Rank) (h : ℕ) → decode (x .log) (x .at) ≡ Whole (Start r h) next → refusal s (Start r h) ≡ none → Standing s q x (Start r h)
+  unfolding apply
+  start-stands r h reads p =
+      itself-stands (Start r h) reads (start-again s q same (quiet .calm) r h p) (λ l. refl) (λ a b. refl)
+      (start-calm q r h (quiet .calm) (start-fits s r h (passes s (Start r h) p) .in-range))
+
+  pub end-stands : (r : Rank) → decode (x .log) (x .at) ≡ Whole (End r) next → refusal s (End r) ≡ none → Standing s q x (End r)
+  unfolding apply
+  end-stands r reads p =
+      itself-stands (End r) reads (end-again s q same (quiet .calm) r p) (λ l. refl) (λ a b. refl)
+      (end-calm q r (quiet .calm) (end-fits s r (passes s (End r) p) .one .in-range))
+
+  -- A take answers the same value from both.
+  pub take-stands : (b a : Rank) → sound s ≡ true → decode (x .log) (x .at) ≡ Whole (Take b a) next → refusal s (Take b a) ≡ none → Standing s q x (Take b a)
+  unfolding apply
+  take-stands b a hs reads p =
+      let p′ = take-again s q same (quiet .calm) b a p in
+      let here = take-value q b a (quiet .is-sound) (take-fits q b a (passes q (Take b a) p′)) in
+      let there = take-value s b a hs (take-fits s b a (passes s (Take b a) p)) in
+      let v1 = head-eq-of-cons-eq (here ∙ ap (valuesBetween a b) same ∙ sym there) in
+      itself-stands (Take b a) reads p′ (λ l. refl) (λ c d. ap (λ (n : ℕ). taken c d (record { read = Take b a; v1 = n } ∷ [])) v1)
+      (take-calm q b a (quiet .calm))
+
+  -- No line stands when the rank moves, so that it lands at once.
+  pub move-stands : (r : Rank) (h : ℕ) → decode (x .log) (x .at) ≡ Whole (Move r h) next → refusal s (Move r h) ≡ none → Standing s q x (Move r h)
+  unfolding apply decode
+  move-stands r h reads p =
+      let p′ = move-again s q same (quiet .calm) r h p in
+      let hr = move-fits s r h (passes s (Move r h) p) .one .in-range in
+      let q′ = apply (x .named) (Move r h) q .state in
+      let h′ = sound-kept (x .named) q (Move r h) (quiet .is-sound) p′ in
+      let moving : Moving q′ r = move-calm q r h (quiet .calm) hr in
+      let lands = land-after q′ r hr moving in
+      record {
+        then = apply (rank 0) (Land r) q′ .state;
+        quiet = quiet-after (rank 0) q′ (Land r) h′ lands (land-calm q′ r moving hr);
+        alike = core-step (rank 0) q′ (Land r) h′ lands ∙ core-step (x .named) q (Move r h) (quiet .is-sound) p′;
+        follows =
+            λ fs ts c f.
+            step-follows {then = some r} q x (Move r h) next reads (quiet .is-sound) p′ (λ l. refl)
+            (step-follows q′ (ofOne Kind.land r) (Land r) 2 refl h′ lands (λ l. rw (sameRank-self r)) f);
+      }
