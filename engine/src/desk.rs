@@ -1,0 +1,155 @@
+//! The state of paper 01, "Names and places", kept for speed: lines and awaits
+//! as sets of ranks, messages as queues of pairs, all updated in place. Only
+//! sound states have a desk.
+
+use crate::mail::{Mail, Place};
+use crate::names::{Host, Rank, Vmid};
+use crate::rank_set::RankSet;
+use crate::snapshot::{Await, Call, Line, Message, Snapshot, Standing};
+use crate::sound::is_sound;
+
+/// A sound state. Each set belongs to the rank that indexes it: `plain` and
+/// `notice` are its lines, `unheeded` and `marked` its awaits.
+#[derive(Clone, Debug)]
+pub struct Desk {
+    pub(crate) standings: [Standing; Rank::COUNT],
+    pub(crate) tables: [[Vmid; Rank::COUNT]; Rank::COUNT],
+    pub(crate) plain: [RankSet; Rank::COUNT],
+    pub(crate) notice: [RankSet; Rank::COUNT],
+    pub(crate) unheeded: [RankSet; Rank::COUNT],
+    pub(crate) marked: [RankSet; Rank::COUNT],
+    pub(crate) calls: [Option<Call>; Rank::COUNT],
+    pub(crate) mail: Mail,
+    pub(crate) drawn: [u16; Host::COUNT],
+}
+
+impl Desk {
+    /// "A fresh desk has no rank started, no messages, no numbers drawn, and
+    /// table entries 0.0."
+    pub fn fresh() -> Desk {
+        Desk {
+            standings: [Standing::Unstarted; Rank::COUNT],
+            tables: [[Vmid::UNKNOWN; Rank::COUNT]; Rank::COUNT],
+            plain: [RankSet::EMPTY; Rank::COUNT],
+            notice: [RankSet::EMPTY; Rank::COUNT],
+            unheeded: [RankSet::EMPTY; Rank::COUNT],
+            marked: [RankSet::EMPTY; Rank::COUNT],
+            calls: [None; Rank::COUNT],
+            mail: Mail::empty(),
+            drawn: [0; Host::COUNT],
+        }
+    }
+
+    /// The desk of a sound state; an unsound one has none.
+    pub fn from_snapshot(state: &Snapshot) -> Option<Desk> {
+        if !is_sound(state) {
+            return None;
+        }
+        let mut desk = Desk::fresh();
+        desk.standings = state.standings;
+        desk.tables = state.tables;
+        desk.calls = state.calls;
+        desk.drawn = state.drawn.map(|count| count as u16);
+        for holder in Rank::all() {
+            for other in Rank::all() {
+                match state.line(holder, other) {
+                    Line::None => {}
+                    Line::Plain => desk.plain[holder.index()].insert(other),
+                    Line::Notice => desk.notice[holder.index()].insert(other),
+                }
+                match state.awaits(holder, other) {
+                    Await::None => {}
+                    Await::Unheeded => desk.unheeded[holder.index()].insert(other),
+                    Await::Marked => desk.marked[holder.index()].insert(other),
+                }
+            }
+        }
+        for message in &state.messages {
+            let place = Place::ALL[usize::from(message.place)];
+            desk.mail
+                .append(message.sender, message.receiver, message.value, place);
+        }
+        Some(desk)
+    }
+
+    /// The plain state, its messages ascending by sender and receiver.
+    pub fn snapshot(&self) -> Snapshot {
+        let mut state = Snapshot::fresh();
+        state.standings = self.standings;
+        state.tables = self.tables;
+        state.calls = self.calls;
+        state.drawn = self.drawn.map(u32::from);
+        state.messages.reserve(self.mail.unread());
+        for holder in Rank::all() {
+            for other in Rank::all() {
+                state.lines[holder.index()][other.index()] = self.line(holder, other);
+                state.awaits[holder.index()][other.index()] = self.awaits(holder, other);
+                let unread = self.mail.unread_of_pair(holder, other);
+                state.messages.extend(unread.map(|(value, place)| Message {
+                    sender: holder,
+                    receiver: other,
+                    value,
+                    place: place as u8,
+                }));
+            }
+        }
+        state
+    }
+
+    /// The standing of a rank.
+    pub fn standing(&self, rank: Rank) -> Standing {
+        self.standings[rank.index()]
+    }
+
+    /// The vmid that `holder` believes to be `other`'s.
+    pub fn table_entry(&self, holder: Rank, other: Rank) -> Vmid {
+        self.tables[holder.index()][other.index()]
+    }
+
+    /// What line `holder` has to `other`.
+    pub fn line(&self, holder: Rank, other: Rank) -> Line {
+        if self.plain[holder.index()].contains(other) {
+            Line::Plain
+        } else if self.notice[holder.index()].contains(other) {
+            Line::Notice
+        } else {
+            Line::None
+        }
+    }
+
+    /// Whether `holder` has any line at all.
+    pub fn has_lines(&self, holder: Rank) -> bool {
+        !(self.plain[holder.index()].is_empty() && self.notice[holder.index()].is_empty())
+    }
+
+    /// What `holder` awaits of `other`.
+    pub fn awaits(&self, holder: Rank, other: Rank) -> Await {
+        if self.unheeded[holder.index()].contains(other) {
+            Await::Unheeded
+        } else if self.marked[holder.index()].contains(other) {
+            Await::Marked
+        } else {
+            Await::None
+        }
+    }
+
+    /// Whether `holder` awaits anything at all.
+    pub fn has_awaits(&self, holder: Rank) -> bool {
+        !(self.unheeded[holder.index()].is_empty() && self.marked[holder.index()].is_empty())
+    }
+
+    /// The open call of a rank.
+    pub fn call(&self, caller: Rank) -> Option<Call> {
+        self.calls[caller.index()]
+    }
+
+    /// The unread messages.
+    pub fn mail(&self) -> &Mail {
+        &self.mail
+    }
+
+    /// How many numbers were drawn on a host.
+    pub fn drawn(&self, host: Host) -> u16 {
+        self.drawn[host.index()]
+    }
+}

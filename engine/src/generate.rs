@@ -1,0 +1,173 @@
+//! Pseudo-random logs for tests, comparisons and measuring: steps of all kinds
+//! of paper 01, "The step log", proposed by looking at the state, so that most
+//! are accepted. The same seed and mix always give the same log.
+
+use crate::desk::Desk;
+use crate::mail::Mail;
+use crate::names::Rank;
+use crate::record::{Kind, Step};
+use crate::refusal::Refusal;
+
+/// How often each sort of step is proposed.
+#[derive(Clone, Copy, Debug)]
+pub struct Mix {
+    /// The weight of each kind, in the order of `Kind::ALL`. The weights of
+    /// send and take are those of a filling desk; they change places while
+    /// the desk empties.
+    pub weights: [u32; Kind::ALL.len()],
+    /// One step in so many has arbitrary fields.
+    pub stray_one_in: u32,
+    /// No rank is ended any more once so many are.
+    pub most_ended: usize,
+}
+
+impl Mix {
+    /// All kinds often, with many overlapping moves.
+    pub const BROAD: Mix = Mix {
+        weights: [2, 16, 24, 60, 12, 6, 5, 24, 6, 4, 1, 4],
+        stray_one_in: 12,
+        most_ended: 5,
+    };
+
+    /// Mostly sends and takes, with moves now and then.
+    pub const TRAFFIC: Mix = Mix {
+        weights: [2, 10, 15, 400, 260, 1, 6, 120, 6, 1, 0, 4],
+        stray_one_in: 1_000,
+        most_ended: 0,
+    };
+}
+
+/// A source of proposed steps.
+#[derive(Clone, Debug)]
+pub struct Generator {
+    mix: Mix,
+    bits: u64,
+    filling: bool,
+}
+
+impl Generator {
+    /// How many kinds are tried before a stray step is proposed.
+    const TRIES: u32 = 8;
+
+    /// A generator whose proposals depend on the seed, the mix and the desks
+    /// it is shown.
+    pub fn new(seed: u64, mix: Mix) -> Generator {
+        Generator {
+            mix,
+            bits: seed.wrapping_mul(0x9E37_79B9_7F4A_7C15) | 1,
+            filling: true,
+        }
+    }
+
+    /// A step for this desk: mostly one that it accepts, or that only a full
+    /// desk refuses.
+    pub fn propose(&mut self, desk: &Desk) -> Step {
+        self.turn_tide(desk.mail().unread());
+        if self.below(self.mix.stray_one_in) == 0 {
+            return self.stray_step(desk);
+        }
+        for _ in 0..Self::TRIES {
+            let kind = self.weighted_kind();
+            if let Some(step) = self.acceptable_step(desk, kind) {
+                return step;
+            }
+        }
+        self.stray_step(desk)
+    }
+
+    /// The desk fills until it is full, stays so for a while, and empties.
+    fn turn_tide(&mut self, unread: usize) {
+        if unread >= Mail::LIMIT && self.below(64) == 0 {
+            self.filling = false;
+        } else if unread < Mail::LIMIT / 64 {
+            self.filling = true;
+        }
+    }
+
+    fn weight(&self, kind: Kind) -> u32 {
+        let weighed = match kind {
+            Kind::Send if !self.filling => Kind::Take,
+            Kind::Take if !self.filling => Kind::Send,
+            other => other,
+        };
+        self.mix.weights[weighed as usize - 1]
+    }
+
+    fn weighted_kind(&mut self) -> Kind {
+        let mut left = self.below(self.mix.weights.iter().sum());
+        for kind in Kind::ALL {
+            match left.checked_sub(self.weight(kind)) {
+                Some(rest) => left = rest,
+                None => return kind,
+            }
+        }
+        unreachable!("the weights of the kinds add up to their sum")
+    }
+
+    /// Some step of this kind that the desk would accept, or would if it were
+    /// not just filled, sought from an arbitrary pair of fields on.
+    fn acceptable_step(&mut self, desk: &Desk, kind: Kind) -> Option<Step> {
+        if kind == Kind::End && self.enough_ended(desk) {
+            return None;
+        }
+        let offset = self.next_bits() as u8;
+        let stride = self.next_bits() as u8 | 1;
+        let value = self.next_bits();
+        (0..=u8::MAX)
+            .map(|turn| offset.wrapping_add(turn.wrapping_mul(stride)))
+            .map(|pair| Step::from_fields(kind, pair >> 4, pair & 15, value))
+            .find(|&step| match desk.check(step) {
+                Ok(()) => true,
+                Err(refusal) => self.filling && refusal == Refusal::DeskFull,
+            })
+    }
+
+    fn enough_ended(&self, desk: &Desk) -> bool {
+        let ended = Rank::all().filter(|&rank| desk.standing(rank).is_ended());
+        ended.count() >= self.mix.most_ended
+    }
+
+    /// A step of any kind with fields mostly in range; a look in place of an
+    /// end too many, lest a long log run out of ranks.
+    fn stray_step(&mut self, desk: &Desk) -> Step {
+        let kind = Kind::ALL[self.below(Kind::ALL.len() as u32) as usize];
+        let (first, second) = (self.stray_field(), self.stray_field());
+        let step = Step::from_fields(kind, first, second, self.next_bits());
+        match step {
+            Step::End { r } if desk.check(step).is_ok() && self.enough_ended(desk) => {
+                Step::Look { r }
+            }
+            other => other,
+        }
+    }
+
+    fn stray_field(&mut self) -> u8 {
+        let limit = if self.below(16) == 0 { 256 } else { 16 };
+        self.below(limit) as u8
+    }
+
+    fn below(&mut self, limit: u32) -> u32 {
+        self.next_bits() % limit
+    }
+
+    /// Xorshift on 64 bits, of which the upper half is used.
+    fn next_bits(&mut self) -> u32 {
+        self.bits ^= self.bits << 13;
+        self.bits ^= self.bits >> 7;
+        self.bits ^= self.bits << 17;
+        (self.bits >> 32) as u32
+    }
+}
+
+/// A log of so many whole records, proposed along their own run.
+pub fn random_log(seed: u64, mix: Mix, records: usize) -> Vec<u8> {
+    let mut generator = Generator::new(seed, mix);
+    let mut desk = Desk::fresh();
+    let mut log = Vec::new();
+    for _ in 0..records {
+        let position = log.len() as u64;
+        generator.propose(&desk).write(&mut log);
+        desk.step_sound(&log, position);
+    }
+    log
+}

@@ -1,0 +1,32 @@
+//! The panel message desk of paper 01: a second engine, written from the
+//! paper's text alone, whose printed runs other implementations are compared
+//! with. `Snapshot` is the plain state, `Desk` the same state kept for speed.
+
+#![forbid(unsafe_code)]
+#![warn(missing_docs)]
+
+pub mod checks;
+pub mod desk;
+pub mod generate;
+pub mod mail;
+pub mod names;
+pub mod rank_set;
+pub mod record;
+pub mod refusal;
+pub mod run;
+pub mod snapshot;
+pub mod sound;
+pub mod standard;
+pub mod step;
+pub mod text;
+mod transitions;
+
+pub use desk::Desk;
+pub use mail::{Mail, Place};
+pub use names::{Host, Rank, Vmid};
+pub use record::{Kind, Step};
+pub use refusal::{Answer, Refusal, Values};
+pub use run::{run_slice, run_stream, RunError};
+pub use snapshot::{Await, Call, Line, Message, Snapshot, Standing};
+pub use sound::{broken_clauses, is_sound, Clause};
+pub use step::{step, Outcome};

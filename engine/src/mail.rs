@@ -1,0 +1,161 @@
+//! The unread messages: one queue for each ordered pair, and how many of its
+//! messages are at each place. This is paper 01's "lower part that knows no
+//! step kinds": it keeps pair order and places, and asks nothing about ranks.
+
+use crate::names::Rank;
+use crate::rank_set::RankSet;
+use std::collections::VecDeque;
+
+/// Where an unread message is; its discriminant is the paper's place.
+#[derive(Clone, Copy, Debug, PartialEq, Eq, PartialOrd, Ord)]
+#[repr(u8)]
+pub enum Place {
+    /// The mover's list.
+    MoverList = 0,
+    /// The lane to the mover.
+    MoverLane = 1,
+    /// The list of the current end.
+    CurrentList = 2,
+    /// The lane to the current end.
+    CurrentLane = 3,
+}
+
+impl Place {
+    /// The four places, ascending.
+    pub const ALL: [Place; 4] = [
+        Place::MoverList,
+        Place::MoverLane,
+        Place::CurrentList,
+        Place::CurrentLane,
+    ];
+}
+
+/// The unread messages of one ordered pair. Within a pair places never fall
+/// along the order of sending, so place order is the order of sending and the
+/// counts say where each message is.
+#[derive(Clone, Debug, Default)]
+struct PairQueue {
+    values: VecDeque<u32>,
+    counts: [u16; 4],
+}
+
+impl PairQueue {
+    /// Moves all messages at one place to another. Nothing may be at a place
+    /// between the two, else places would fall along the order of sending.
+    fn shift(&mut self, from: Place, to: Place) -> u32 {
+        let (low, high) = (from.min(to) as usize, from.max(to) as usize);
+        debug_assert!(self.counts[low + 1..high].iter().all(|&count| count == 0));
+        let moved = std::mem::take(&mut self.counts[from as usize]);
+        self.counts[to as usize] += moved;
+        u32::from(moved)
+    }
+}
+
+/// All unread messages of the desk.
+#[derive(Clone, Debug)]
+pub struct Mail {
+    /// One queue for each receiver and sender, a receiver's queues together.
+    queues: Vec<PairQueue>,
+    /// For each receiver, the senders whose queue is not empty.
+    waiting: [RankSet; Rank::COUNT],
+    unread: usize,
+}
+
+impl Mail {
+    /// "At most 1,024 are unread in the whole desk."
+    pub const LIMIT: usize = 1_024;
+
+    /// No messages.
+    pub fn empty() -> Mail {
+        Mail {
+            queues: vec![PairQueue::default(); Rank::COUNT * Rank::COUNT],
+            waiting: [RankSet::EMPTY; Rank::COUNT],
+            unread: 0,
+        }
+    }
+
+    fn queue(&self, sender: Rank, receiver: Rank) -> &PairQueue {
+        &self.queues[receiver.index() * Rank::COUNT + sender.index()]
+    }
+
+    fn queue_mut(&mut self, sender: Rank, receiver: Rank) -> &mut PairQueue {
+        &mut self.queues[receiver.index() * Rank::COUNT + sender.index()]
+    }
+
+    /// How many messages are unread in the whole desk.
+    pub fn unread(&self) -> usize {
+        self.unread
+    }
+
+    /// How many messages from `sender` to `receiver` are unread.
+    pub fn unread_between(&self, sender: Rank, receiver: Rank) -> u32 {
+        self.queue(sender, receiver).values.len() as u32
+    }
+
+    /// The ranks with a message unread by `receiver`.
+    pub fn senders_to(&self, receiver: Rank) -> RankSet {
+        self.waiting[receiver.index()]
+    }
+
+    /// How many messages of a pair are at each place.
+    pub fn counts(&self, sender: Rank, receiver: Rank) -> [u16; 4] {
+        self.queue(sender, receiver).counts
+    }
+
+    /// The messages of a pair in place order, each with its place.
+    pub fn unread_of_pair(
+        &self,
+        sender: Rank,
+        receiver: Rank,
+    ) -> impl Iterator<Item = (u32, Place)> + '_ {
+        let queue = self.queue(sender, receiver);
+        let places = Place::ALL.into_iter().flat_map(|place| {
+            std::iter::repeat_n(place, usize::from(queue.counts[place as usize]))
+        });
+        queue.values.iter().copied().zip(places)
+    }
+
+    /// Adds a message as the last of its pair. No message of the pair may be
+    /// at a higher place. Gives how many the pair then has.
+    pub fn append(&mut self, sender: Rank, receiver: Rank, value: u32, place: Place) -> u32 {
+        self.unread += 1;
+        self.waiting[receiver.index()].insert(sender);
+        let queue = self.queue_mut(sender, receiver);
+        debug_assert!(queue.counts[place as usize + 1..].iter().all(|&n| n == 0));
+        queue.values.push_back(value);
+        queue.counts[place as usize] += 1;
+        queue.values.len() as u32
+    }
+
+    /// Takes out the first message of a pair in place order, and gives its
+    /// value and how many the pair then has.
+    pub fn take_first(&mut self, sender: Rank, receiver: Rank) -> Option<(u32, u32)> {
+        let queue = self.queue_mut(sender, receiver);
+        let value = queue.values.pop_front()?;
+        let lowest = queue.counts.iter_mut().find(|count| **count > 0)?;
+        *lowest -= 1;
+        let left = queue.values.len() as u32;
+        self.unread -= 1;
+        if left == 0 {
+            self.waiting[receiver.index()].remove(sender);
+        }
+        Some((value, left))
+    }
+
+    /// Moves all messages of a pair at one place to another with nothing
+    /// between, and gives how many moved.
+    pub fn shift(&mut self, sender: Rank, receiver: Rank, from: Place, to: Place) -> u32 {
+        self.queue_mut(sender, receiver).shift(from, to)
+    }
+
+    /// Moves the first message of a pair on the lane to the mover into the
+    /// mover's list, and gives its value.
+    pub fn list_first_of_mover_lane(&mut self, sender: Rank, receiver: Rank) -> Option<u32> {
+        let queue = self.queue_mut(sender, receiver);
+        let [listed, on_lane, ..] = &mut queue.counts;
+        *on_lane = on_lane.checked_sub(1)?;
+        let value = queue.values[usize::from(*listed)];
+        *listed += 1;
+        Some(value)
+    }
+}

@@ -1,0 +1,233 @@
+//! Logs as text, one record a line in the words of paper 01: `send 0 1 500`.
+//! Blank lines and comments from `#` on are passed over. Numbers are decimal,
+//! or hexadecimal after `0x`; they may be out of a desk's range, so that
+//! refused records can be written too. A line `bytes 4 0 1 ff` gives bytes as
+//! they are, in hexadecimal, so that every log has a text.
+
+use crate::record::{Kind, Step};
+use std::fmt::{self, Write};
+
+/// The word of a line that gives bytes as they are.
+const BYTES: &str = "bytes";
+
+impl Kind {
+    /// The word for a record of this kind.
+    pub fn word(self) -> &'static str {
+        match self {
+            Kind::Start => "start",
+            Kind::Call => "call",
+            Kind::Route => "route",
+            Kind::Send => "send",
+            Kind::Take => "take",
+            Kind::Move => "move",
+            Kind::Heed => "heed",
+            Kind::Drain => "drain",
+            Kind::Land => "land",
+            Kind::Part => "part",
+            Kind::End => "end",
+            Kind::Look => "look",
+        }
+    }
+
+    /// The kind with this word.
+    pub fn from_word(word: &str) -> Option<Kind> {
+        Kind::ALL.into_iter().find(|kind| kind.word() == word)
+    }
+}
+
+/// A field of a record; a rank with its part in the step.
+#[derive(Clone, Copy)]
+enum Field {
+    Rank(&'static str),
+    Host,
+    Value,
+}
+
+/// The fields of a kind's body, in order.
+fn fields_of(kind: Kind) -> &'static [Field] {
+    use Field::{Host, Rank, Value};
+    match kind {
+        Kind::Start | Kind::Move => &[Rank("rank"), Host],
+        Kind::Call | Kind::Route => &[Rank("calling rank"), Rank("called rank")],
+        Kind::Send => &[Rank("sender"), Rank("receiver"), Value],
+        Kind::Take => &[Rank("receiver"), Rank("sender")],
+        Kind::Heed => &[Rank("heeding rank"), Rank("moving rank")],
+        Kind::Drain => &[Rank("moving rank"), Rank("sender")],
+        Kind::Land => &[Rank("moving rank")],
+        Kind::Part => &[Rank("rank"), Rank("other rank")],
+        Kind::End | Kind::Look => &[Rank("rank")],
+    }
+}
+
+impl Field {
+    /// What the field is in its step.
+    fn part(self) -> &'static str {
+        match self {
+            Field::Rank(part) => part,
+            Field::Host | Field::Value => self.sort(),
+        }
+    }
+
+    /// What sort of number it is.
+    fn sort(self) -> &'static str {
+        match self {
+            Field::Rank(_) => "rank",
+            Field::Host => "host",
+            Field::Value => "value",
+        }
+    }
+
+    /// How many bytes it has, and the highest number that they hold.
+    fn extent(self) -> (usize, u32) {
+        match self {
+            Field::Rank(_) | Field::Host => (1, u32::from(u8::MAX)),
+            Field::Value => (4, u32::MAX),
+        }
+    }
+
+    /// Appends the number that a word gives for this field.
+    fn append(self, word: &str, log: &mut Vec<u8>) -> Result<(), String> {
+        let (length, highest) = self.extent();
+        let number = read_number(word).filter(|&number| number <= highest);
+        let number = number.ok_or_else(|| {
+            let (sort, word) = (self.sort(), word.escape_debug());
+            format!("{sort} '{word}' is not a number from 0 to {highest}")
+        })?;
+        log.extend_from_slice(&number.to_le_bytes()[..length]);
+        Ok(())
+    }
+}
+
+/// A line that is no record, and what was expected of it.
+#[derive(Clone, Debug, PartialEq, Eq)]
+pub struct TextError {
+    /// The line, counted from 1.
+    pub line: usize,
+    /// What is wrong with it.
+    pub problem: String,
+}
+
+impl fmt::Display for TextError {
+    fn fmt(&self, formatter: &mut fmt::Formatter<'_>) -> fmt::Result {
+        write!(formatter, "line {}: {}", self.line, self.problem)
+    }
+}
+
+impl std::error::Error for TextError {}
+
+/// The log of a text, or its first line that is none of the allowed ones.
+pub fn encode(text: &str) -> Result<Vec<u8>, TextError> {
+    let mut log = Vec::new();
+    for (index, line) in text.lines().enumerate() {
+        append_line(line, &mut log).map_err(|problem| TextError {
+            line: index + 1,
+            problem,
+        })?;
+    }
+    Ok(log)
+}
+
+fn append_line(line: &str, log: &mut Vec<u8>) -> Result<(), String> {
+    let content = line.split_once('#').map_or(line, |(content, _)| content);
+    let mut words = content.split_whitespace();
+    let Some(first) = words.next() else {
+        return Ok(());
+    };
+    let words: Vec<&str> = words.collect();
+    if first == BYTES {
+        return append_bytes(&words, log);
+    }
+    let kind = Kind::from_word(first).ok_or_else(|| unknown_word(first))?;
+    append_record(kind, &words, log)
+}
+
+fn append_record(kind: Kind, words: &[&str], log: &mut Vec<u8>) -> Result<(), String> {
+    let fields = fields_of(kind);
+    if words.len() < fields.len() {
+        return Err(needs(kind));
+    }
+    if let Some(extra) = words.get(fields.len()) {
+        let extra = extra.escape_debug();
+        return Err(format!("'{extra}' is too much; {}", needs(kind)));
+    }
+    log.push(kind as u8);
+    let mut pairs = fields.iter().zip(words);
+    pairs.try_for_each(|(field, word)| field.append(word, log))
+}
+
+fn append_bytes(words: &[&str], log: &mut Vec<u8>) -> Result<(), String> {
+    if words.is_empty() {
+        return Err(format!("{BYTES} needs at least one byte"));
+    }
+    for word in words {
+        let digits = word.strip_prefix("0x").unwrap_or(word);
+        let byte = read_digits(digits, 16).and_then(|number| u8::try_from(number).ok());
+        log.push(byte.ok_or_else(|| {
+            let word = word.escape_debug();
+            format!("byte '{word}' is not a hexadecimal number from 0 to ff")
+        })?);
+    }
+    Ok(())
+}
+
+fn unknown_word(word: &str) -> String {
+    let known = Kind::ALL.map(Kind::word).join(", ");
+    let word = word.escape_debug();
+    format!("'{word}' is no record kind; one of {known}, {BYTES}")
+}
+
+/// "send needs sender, receiver and value".
+fn needs(kind: Kind) -> String {
+    let parts: Vec<&str> = fields_of(kind).iter().map(|field| field.part()).collect();
+    let list = match parts.split_last() {
+        Some((last, rest)) if !rest.is_empty() => format!("{} and {last}", rest.join(", ")),
+        _ => parts.concat(),
+    };
+    format!("{} needs {list}", kind.word())
+}
+
+fn read_number(word: &str) -> Option<u32> {
+    match word.strip_prefix("0x") {
+        Some(digits) => read_digits(digits, 16),
+        None => read_digits(word, 10),
+    }
+}
+
+/// The number of some digits, without a sign.
+fn read_digits(digits: &str, radix: u32) -> Option<u32> {
+    let plain = digits.chars().all(|digit| digit.is_digit(radix));
+    plain.then(|| u32::from_str_radix(digits, radix).ok())?
+}
+
+/// The text of a log. What is no whole record of a known kind, and all after
+/// it, is one line of bytes.
+pub fn decode(log: &[u8]) -> String {
+    let mut text = String::new();
+    let mut rest = log;
+    while let Ok((step, length)) = Step::read(rest) {
+        push_record(&mut text, step);
+        rest = &rest[length..];
+    }
+    if !rest.is_empty() {
+        push_bytes(&mut text, rest);
+    }
+    text
+}
+
+fn push_record(text: &mut String, step: Step) {
+    let (kind, first, second, value) = step.fields();
+    text.push_str(kind.word());
+    let numbers = [u32::from(first), u32::from(second), value];
+    for number in &numbers[..fields_of(kind).len()] {
+        write!(text, " {number}").expect("a string takes all text");
+    }
+    text.push('\n');
+}
+
+fn push_bytes(text: &mut String, bytes: &[u8]) {
+    text.push_str(BYTES);
+    for byte in bytes {
+        write!(text, " {byte:x}").expect("a string takes all text");
+    }
+    text.push('\n');
+}

@@ -1,0 +1,61 @@
+//! A log to compare on, with a name for reports and the way it is handed to
+//! the program; and how such logs are made.
+
+use engine::generate::{Generator, Mix};
+use engine::text::encode;
+use engine::Desk;
+
+/// How a log comes to the program's standard input.
+#[derive(Clone, Copy, Debug)]
+pub enum Feed {
+    /// Through a pipe, at once.
+    Pipe,
+    /// Through a pipe, in pieces of so many bytes with pauses between.
+    Pieces(usize),
+    /// From a file.
+    File,
+}
+
+/// A log to compare on.
+#[derive(Clone, Debug)]
+pub struct Log {
+    pub name: String,
+    pub bytes: Vec<u8>,
+    pub feed: Feed,
+}
+
+impl Log {
+    pub fn new(name: impl Into<String>, bytes: Vec<u8>, feed: Feed) -> Log {
+        Log {
+            name: name.into(),
+            bytes,
+            feed,
+        }
+    }
+}
+
+/// The log of steps written as the paper writes them, "start 0 0, call 0 1".
+pub fn log_of(steps: &str) -> Vec<u8> {
+    encode(&steps.replace(", ", "\n")).unwrap_or_else(|error| panic!("{error} of '{steps}'"))
+}
+
+/// The desk that a log of whole records leaves.
+pub fn desk_after(log: &[u8]) -> Desk {
+    let mut desk = Desk::fresh();
+    let mut position = 0;
+    while position < log.len() as u64 {
+        position = desk.step_sound(log, position).next;
+    }
+    desk
+}
+
+/// Goes on from a log of whole records with so many pseudo-random ones.
+pub fn append_random(log: &mut Vec<u8>, seed: u64, mix: Mix, records: usize) {
+    let mut generator = Generator::new(seed, mix);
+    let mut desk = desk_after(log);
+    for _ in 0..records {
+        let position = log.len() as u64;
+        generator.propose(&desk).write(log);
+        desk.step_sound(log, position);
+    }
+}

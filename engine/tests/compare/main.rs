@@ -1,0 +1,22 @@
+//! Runs a second program on the same logs as this engine and compares what
+//! they print: paper 01, "The printed run", every byte of it. Only the rank of
+//! an accepted look is free; it is tested for being allowed. The program is
+//! the one that `REPLAY` names, else `../target/bin/replay`.
+
+mod alike;
+mod bits;
+mod expected;
+mod garbage;
+mod limits;
+mod log;
+mod paper;
+#[path = "../shared/printed_run.rs"]
+mod printed_run;
+mod probes;
+mod program;
+mod random;
+#[path = "../shared/situations.rs"]
+mod situations;
+mod tally;
+mod unreadable;
+mod window;

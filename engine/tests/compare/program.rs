@@ -1,0 +1,131 @@
+//! The program to compare with: where it is, and how it is run. A run that
+//! prints without end or does not stop is ended, and reported.
+
+use std::env;
+use std::fs::File;
+use std::io::{self, Read, Write};
+use std::path::PathBuf;
+use std::process::{ChildStderr, ChildStdin, ChildStdout, Command, Output, Stdio};
+use std::sync::{mpsc, Mutex, MutexGuard, PoisonError};
+use std::thread;
+use std::time::Duration;
+
+const USUAL_PLACE: &str = concat!(env!("CARGO_MANIFEST_DIR"), "/../target/bin/replay");
+
+/// A single run may take so long.
+const TIME_LIMIT: Duration = Duration::from_secs(60);
+
+/// More than a report of an error is not read from standard error.
+const LONGEST_REPORT: u64 = 4_096;
+
+/// Between the pieces of an input that comes slowly.
+const PAUSE: Duration = Duration::from_micros(200);
+
+/// A program's standard input.
+pub enum Input<'a> {
+    /// A log through a pipe, in pieces of so many bytes.
+    Pipe(&'a [u8], usize),
+    /// A file.
+    File(File),
+}
+
+/// A program that can be run.
+pub struct Program {
+    pub path: PathBuf,
+    _turn: MutexGuard<'static, ()>,
+}
+
+impl Program {
+    /// The program, for one test at a time. Where there is none, this fails if
+    /// `REPLAY_REQUIRED` is 1, and otherwise says that the test is skipped.
+    pub fn find() -> Option<Program> {
+        static TURN: Mutex<()> = Mutex::new(());
+        let place = env::var_os("REPLAY").unwrap_or_else(|| USUAL_PLACE.into());
+        let place = PathBuf::from(place);
+        if let Ok(path) = place.canonicalize() {
+            return Some(Program {
+                path,
+                _turn: TURN.lock().unwrap_or_else(PoisonError::into_inner),
+            });
+        }
+        let missing = format!(
+            "there is no program to compare with at {}; build it, or name it in REPLAY",
+            place.display()
+        );
+        let required = env::var_os("REPLAY_REQUIRED").is_some_and(|value| value == "1");
+        assert!(!required, "{missing}");
+        // Written directly: what a passing test prints is not shown.
+        let _ = writeln!(io::stderr(), "comparison SKIPPED: {missing}");
+        None
+    }
+
+    /// Runs the program. It may print at most so many bytes.
+    pub fn run(&self, input: Input, longest: usize) -> Result<Output, String> {
+        let (stdin, pipe) = match input {
+            Input::Pipe(log, piece) => (Stdio::piped(), Some((log, piece))),
+            Input::File(file) => (file.into(), None),
+        };
+        let mut child = Command::new(&self.path)
+            .stdin(stdin)
+            .stdout(Stdio::piped())
+            .stderr(Stdio::piped())
+            .spawn()
+            .map_err(|error| format!("cannot run {}: {error}", self.path.display()))?;
+        let stdin = child.stdin.take();
+        let stdout = child.stdout.take().expect("standard output is a pipe");
+        let stderr = child.stderr.take().expect("standard error is a pipe");
+        thread::scope(|scope| {
+            if let (Some(stdin), Some((log, piece))) = (stdin, pipe) {
+                scope.spawn(move || write_pieces(stdin, log, piece));
+            }
+            let (sender, receiver) = mpsc::channel();
+            scope.spawn(move || sender.send(read_both(stdout, stderr, longest)));
+            let printed = match receiver.recv_timeout(TIME_LIMIT) {
+                Ok(Ok((stdout, _))) if stdout.len() > longest => {
+                    Err(format!("prints more than {longest} bytes"))
+                }
+                Ok(read) => read.map_err(|error| format!("cannot read what it prints: {error}")),
+                Err(_) => Err(format!("does not stop within {TIME_LIMIT:?}")),
+            };
+            if printed.is_err() {
+                // Where it has just stopped by itself there is nothing to end.
+                let _ = child.kill();
+            }
+            let status = child.wait().map_err(|error| error.to_string())?;
+            printed.map(|(stdout, stderr)| Output {
+                status,
+                stdout,
+                stderr,
+            })
+        })
+    }
+}
+
+/// A program that stops at a refused record leaves the rest unread, and then
+/// it cannot be written.
+fn write_pieces(mut stdin: ChildStdin, log: &[u8], piece: usize) {
+    for (index, bytes) in log.chunks(piece.max(1)).enumerate() {
+        if index > 0 {
+            thread::sleep(PAUSE);
+        }
+        if stdin.write_all(bytes).is_err() {
+            return;
+        }
+    }
+}
+
+/// One byte more than the longest allowed text shows that it is too long.
+fn read_both(
+    stdout: ChildStdout,
+    stderr: ChildStderr,
+    longest: usize,
+) -> io::Result<(Vec<u8>, Vec<u8>)> {
+    let mut printed = (Vec::new(), Vec::new());
+    stdout
+        .take(longest as u64 + 1)
+        .read_to_end(&mut printed.0)?;
+    if printed.0.len() <= longest {
+        stderr.take(LONGEST_REPORT).read_to_end(&mut printed.1)?;
+    }
+    Ok(printed)
+}

@@ -1,0 +1,134 @@
+//! What a set of logs reaches: how many steps, how often each kind is accepted
+//! and each number given, and the situations that are easy to get wrong.
+
+use crate::log::Log;
+use crate::situations::Situations;
+use engine::{Desk, Kind, Refusal, Step};
+
+/// The highest number of the table of checks.
+const HIGHEST: usize = Refusal::NumbersExhausted as usize;
+
+/// Bytes that are no kind are counted together, before the kinds.
+const SORTS: usize = Kind::ALL.len() + 1;
+
+/// For each number from 4 on, the kinds that paper 01's table names.
+#[rustfmt::skip]
+const NAMED: [(usize, &[Kind]); 22] = {
+    use Kind::{Call, Drain, End, Heed, Land, Look, Move, Part, Route, Send, Start, Take};
+    [
+        (4, &Kind::ALL),
+        (5, &[Start, Move]),
+        (6, &[Call, Route, Send, Take, Heed, Drain, Part]),
+        (7, &[Call, Route, Send, Take, Move, Heed, Drain, Land, Part, End, Look]),
+        (8, &[Start]),
+        (9, &[Call, Send, Take, Move, Heed, Drain, Land, Part, End, Look]),
+        (10, &[Call, Send, Take, Move, Part, End, Look]),
+        (11, &[Drain, Land]),
+        (12, &[Call, End]),
+        (13, &[Call, Move, End]),
+        (14, &[Route]),
+        (15, &[Send, Part]),
+        (16, &[Part]),
+        (17, &[Heed]),
+        (18, &[Move]),
+        (19, &[Land]),
+        (20, &[Drain]),
+        (21, &[Drain]),
+        (22, &[Take, Look]),
+        (23, &[End]),
+        (24, &[Send]),
+        (25, &[Start, Move]),
+    ]
+};
+
+/// The counts of a set of logs.
+pub struct Tally {
+    logs: u64,
+    steps: u64,
+    /// By number, 0 for accepted steps, and by kind.
+    answers: [[u64; SORTS]; HIGHEST + 1],
+    situations: Situations,
+}
+
+impl Tally {
+    pub fn of(logs: &[Log]) -> Tally {
+        let mut tally = Tally {
+            logs: logs.len() as u64,
+            steps: 0,
+            answers: [[0; SORTS]; HIGHEST + 1],
+            situations: Situations::default(),
+        };
+        for log in logs {
+            tally.run(&log.bytes);
+        }
+        tally
+    }
+
+    /// Counts the lines of a log's printed run that are of records.
+    fn run(&mut self, log: &[u8]) {
+        let mut desk = Desk::fresh();
+        let mut position = 0;
+        while let Some(&byte) = log.get(position) {
+            let step = Step::read(&log[position..]).map(|(step, _)| step);
+            if let Ok(step) = step {
+                self.situations.note_before(&desk, step);
+            }
+            let outcome = desk.step_sound(log, position as u64);
+            if let (Ok(step), Ok(values)) = (step, outcome.answer) {
+                self.situations.note_after(step, values);
+            }
+            let number = engine::refusal::number_of(&outcome.answer);
+            let sort = Kind::from_byte(byte).map_or(0, |kind| kind as usize);
+            self.answers[usize::from(number)][sort] += 1;
+            self.steps += 1;
+            if outcome.answer.is_err_and(Refusal::keeps_position) {
+                break;
+            }
+            position = outcome.next as usize;
+        }
+    }
+
+    /// All counts, one a line. 1 cannot be given from a fresh desk.
+    pub fn report(&self) -> String {
+        let mut lines = vec![
+            format!("logs: {}", self.logs),
+            format!("steps: {}", self.steps),
+        ];
+        for kind in Kind::ALL {
+            let count = self.answers[0][kind as usize];
+            lines.push(format!(
+                "accepted {:02X} {}: {count}",
+                kind as u8,
+                kind.word()
+            ));
+        }
+        for number in 2..=HIGHEST {
+            let count: u64 = self.answers[number].iter().sum();
+            lines.push(format!("refused with {number}: {count}"));
+        }
+        for (situation, count) in self.situations.rows() {
+            lines.push(format!("{situation}: {count}"));
+        }
+        lines.join("\n") + "\n"
+    }
+
+    /// Every kind is accepted, every number from 2 on is given, from 3 on in
+    /// every kind that the table names, and every situation comes up.
+    pub fn check(&self) {
+        for kind in Kind::ALL {
+            let word = kind.word();
+            assert!(self.answers[0][kind as usize] > 0, "no {word} is accepted");
+            assert!(self.answers[3][kind as usize] > 0, "no {word} is cut short");
+        }
+        assert!(self.answers[2][0] > 0, "no unknown kind");
+        for (number, kinds) in NAMED {
+            for &kind in kinds {
+                let count = self.answers[number][kind as usize];
+                assert!(count > 0, "no {} gets {number}", kind.word());
+            }
+        }
+        for (situation, count) in self.situations.rows() {
+            assert!(count > 0, "no {situation}");
+        }
+    }
+}

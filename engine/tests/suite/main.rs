@@ -1,0 +1,19 @@
+//! The tests of the second engine, one module for each idea: paper 01's
+//! listing and edges, every refusal, soundness, order within pairs, and logs
+//! of any bytes and any length.
+
+mod edges;
+mod listing;
+mod logs;
+mod long_input;
+mod plain_reading;
+mod plain_table;
+#[path = "../shared/printed_run.rs"]
+mod printed_run;
+mod program;
+mod random_steps;
+mod refusals;
+#[path = "../shared/situations.rs"]
+mod situations;
+mod text;
+mod unsound;

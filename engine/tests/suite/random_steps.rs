@@ -1,0 +1,104 @@
+//! Long lists of pseudo-random steps: after each step the state is sound, and
+//! for each ordered pair the values taken and then those unread are the values
+//! sent. The lists must reach the situations that are easy to get wrong.
+
+use crate::situations::Situations;
+use engine::generate::{Generator, Mix};
+use engine::{broken_clauses, Desk, Kind, Rank, Snapshot, Step, Values};
+
+const SEEDS: std::ops::Range<u64> = 1..7;
+const STEPS: usize = 25_000;
+
+/// The values sent and taken, from the answers alone, for each ordered pair.
+struct History {
+    sent: Vec<Vec<u32>>,
+    taken: Vec<Vec<u32>>,
+}
+
+fn pair(sender: Rank, receiver: Rank) -> usize {
+    sender.index() * Rank::COUNT + receiver.index()
+}
+
+impl History {
+    fn new() -> History {
+        let none = vec![Vec::new(); Rank::COUNT * Rank::COUNT];
+        History {
+            sent: none.clone(),
+            taken: none,
+        }
+    }
+
+    fn note(&mut self, step: Step, values: Values) {
+        match step {
+            Step::Send { a, b, value } => self.sent[pair(a, b)].push(value),
+            Step::Take { b, a } => self.taken[pair(a, b)].push(values[0]),
+            _ => {}
+        }
+    }
+
+    /// Taken values followed by unread values are the sent values. That those
+    /// taken are the first of those sent was seen when they were taken.
+    fn check_unread(&self, state: &Snapshot) {
+        let mut counts: Vec<usize> = self.taken.iter().map(Vec::len).collect();
+        for message in &state.messages {
+            let pair = pair(message.sender, message.receiver);
+            assert_eq!(self.sent[pair].get(counts[pair]), Some(&message.value));
+            counts[pair] += 1;
+        }
+        let sent: Vec<usize> = self.sent.iter().map(Vec::len).collect();
+        assert_eq!(counts, sent);
+    }
+
+    fn check_taken(&self) {
+        for (sent, taken) in self.sent.iter().zip(&self.taken) {
+            assert!(sent.starts_with(taken));
+        }
+    }
+}
+
+/// Every kind must be accepted often, and every situation come up.
+fn check_reached(accepted: &[u32; Kind::ALL.len()], situations: &Situations) {
+    for (kind, &count) in Kind::ALL.iter().zip(accepted) {
+        let least = match kind {
+            Kind::Start | Kind::End => 20,
+            _ => 1_000,
+        };
+        assert!(count >= least, "{kind:?} is accepted {count} times");
+    }
+    assert!(accepted.iter().sum::<u32>() >= 100_000, "{accepted:?}");
+    for (situation, count) in situations.rows() {
+        assert!(count >= 50, "{situation}: {count}");
+    }
+}
+
+#[test]
+fn random_steps_keep_soundness_and_order() {
+    let mut accepted = [0; Kind::ALL.len()];
+    let mut situations = Situations::default();
+    let mut record = Vec::new();
+    for seed in SEEDS {
+        let mut generator = Generator::new(seed, Mix::BROAD);
+        let mut desk = Desk::fresh();
+        let mut history = History::new();
+        for _ in 0..STEPS {
+            let step = generator.propose(&desk);
+            situations.note_before(&desk, step);
+            record.clear();
+            step.write(&mut record);
+            let outcome = desk.step_sound(&record, 0);
+            assert_eq!(outcome.next, record.len() as u64);
+            if let Ok(values) = outcome.answer {
+                history.note(step, values);
+                situations.note_after(step, values);
+                accepted[step.fields().0 as usize - 1] += 1;
+            }
+            let state = desk.snapshot();
+            assert_eq!(broken_clauses(&state), [], "seed {seed} after {step:?}");
+            history.check_unread(&state);
+        }
+        history.check_taken();
+        let ended = Rank::all().filter(|&rank| desk.standing(rank).is_ended());
+        assert!(ended.count() >= 3, "seed {seed}");
+    }
+    check_reached(&accepted, &situations);
+}
