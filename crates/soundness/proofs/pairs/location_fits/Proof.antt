@@ -1,0 +1,34 @@
+-- `soundness::pairs::location_fits` meets its contract: it tests by whether the rank is started.
+-- Assumes nothing.
+use borrow.Author.Needs.{needs}
+use Rattle.soundness.proofs.pairs.location_fits.Statement.{statement}
+use Rattle.soundness.proofs.pairs.location_fits.Tie as tie
+
+is-started-requires : tie.Need-is-started-requires
+is-started-requires c κs = search needs
+
+is-drawn-requires : tie.Need-is-drawn-requires
+is-drawn-requires c κs = search needs
+
+unknown-requires : tie.Need-unknown-requires
+unknown-requires c κs = search needs
+
+same-requires : tie.Need-same-requires
+same-requires c κs = search needs
+
+returns : tie.Need-returns
+returns c = rw (← c .before .before .is-started .ensures, c .before .if1 .taken, c .is-drawn .ensures)
+
+returns-2 : tie.Need-returns-2
+returns-2 c = rw (← c .before .before .before .is-started .ensures, c .before .before .if1 .left, c .same .ensures, c .before .unknown .ensures)
+
+pub location-fits-spec : {M : Type 1} → statement M
+location-fits-spec =
+    tie.close
+    (tie.spec
+    is-started-requires
+    is-drawn-requires
+    unknown-requires
+    same-requires
+    returns
+    returns-2)

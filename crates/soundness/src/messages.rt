@@ -1,0 +1,79 @@
+// The unread messages in order of sending: each by its sender and its receiver, and each after the last of its pair.
+ghost use mathlib.Core.Path.{_≡_};
+ghost use Rattle.transit.specs.Unread.{view};
+ghost use Rattle.broker.specs.Laws.Sound.{isNamed};
+ghost use Rattle.soundness.specs.Messages.{placeFits, messageFits, messagesSound};
+use broker::link::Link;
+use broker::process::Process;
+use broker::process::Status;
+use broker::state::Broker;
+use transit::Message;
+use transit::Place;
+use transit::Transit;
+
+// The message is from a rank to another rank.
+fn is_named(m: Message) -> bool
+    ensures { λ r. ⌜ r ≡ isNamed m ⌝ }
+{
+    let from = m.sender.0;
+    let to = m.receiver.0;
+    (from < Broker::RANKS) & (to < Broker::RANKS) & !(from == to)
+}
+
+// A place by the receiver's status and its link to the sender, `back`.
+fn place_fits(place: Place, receiver: Status, back: Link) -> bool
+    ensures { λ r. ⌜ r ≡ placeFits place receiver back ⌝ }
+{
+    let connection = back.connection;
+    let backlog = back.backlog;
+    let number = place.number();
+    let heeded = !backlog.is_unheeded() | (number == 0) | (number == 1);
+    let migrating = !((number == 0) | (number == 1)) | receiver.is_migrating();
+    let awaited = !(number == 1) | !backlog.is_clear();
+    let connected = !(number == 3) | !connection.is_closed();
+    heeded & (migrating & awaited & connected)
+}
+
+fn message_fits(m: Message, sender: Process, receiver: Process, back: Link) -> bool
+    ensures { λ r. ⌜ r ≡ messageFits m sender receiver back ⌝ }
+{
+    let place = m.place;
+    let from = sender.status;
+    let to = receiver.status;
+    from.is_started() & to.is_live() & place_fits(place, to, back)
+}
+
+// Every message, up to the first that fails or is at a lower place than the last of its pair.
+pub fn messages_sound(processes: [Process; 16], links: [Link; 256], t: Transit) -> bool
+    ensures { λ r. ⌜ r ≡ messagesSound processes links (view t) ⌝ }
+{
+    let count = t.count;
+    if Transit::LIMIT < count {
+        return false;
+    }
+    let mut last = [0u8; 256];
+    let mut i: usize = 0;
+    while i < count {
+        let m = t.messages[i];
+        if !is_named(m) {
+            return false;
+        }
+        let from = m.sender.0 as usize;
+        let to = m.receiver.0 as usize;
+        let sender = processes[from];
+        let receiver = processes[to];
+        let back = links[16 * to + from];
+        if !message_fits(m, sender, receiver, back) {
+            return false;
+        }
+        let place = m.place;
+        let number = place.number();
+        let pair = 16 * from + to;
+        if number < last[pair] {
+            return false;
+        }
+        last[pair] = number;
+        i += 1;
+    }
+    true
+}
