@@ -1,0 +1,34 @@
+-- `transitions::messages::deliver` meets its contract: what `append` leaves is what the definition says, and the count is of that.
+-- Assumes nothing.
+use mathlib.Core.Path.{ap, _∙_}
+use borrow.Author.Needs.{needs}
+use Rattle.transit.specs.Lists.{tally}
+use Rattle.transit.specs.Message.{between}
+use Rattle.transit.specs.Unread.{Unread, AfterAppend}
+use Rattle.transitions.specs.Messages.{deliver}
+use Rattle.transitions.proofs.messages.deliver.Statement.{statement}
+use Rattle.transitions.proofs.messages.deliver.Tie as tie
+use Rattle.transitions.proofs.messages.deliver.Reads as reads
+use Rattle.transitions.proofs.messages.deliver.Lts as lts
+use Rattle.transit.proofs.append.append.Reads as append-reads
+use Rattle.transitions.proofs.messages.unread.Reads as unread-reads
+
+-- src/messages.rt:78:9
+append-requires : tie.Need-append-requires
+append-requires c κs = search needs
+
+-- src/messages.rt:80:9
+unread-requires : tie.Need-unread-requires
+unread-requires c κs = search needs
+
+-- src/messages.rt:72:1
+returns : tie.Need-returns
+unfolding deliver
+returns c =
+    let after = ap (λ (x : AfterAppend). x .unread) (c .before .before .append .ensures) in
+    let m = c .before .before .before .before .before .before .args .m in
+    let left = c .unread .ensures ∙ ap (λ (u : Unread). tally (between (m .sender) (m .receiver)) (u .messages)) after in
+    rw (left, after)
+
+pub deliver-spec : {M : Type 1} → statement M
+deliver-spec = tie.close (tie.spec append-requires unread-requires returns)

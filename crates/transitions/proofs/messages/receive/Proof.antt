@@ -1,0 +1,41 @@
+-- `transitions::messages::receive` meets its contract: what `remove` finds and leaves is what the definition says.
+-- Assumes nothing.
+use mathlib.Core.Path.{ap, _∙_}
+use borrow.Author.Needs.{needs}
+use Rattle.transit.specs.Lists.{tally}
+use Rattle.transit.specs.Message.{between}
+use Rattle.transit.specs.Unread.{Unread, AfterRemove}
+use Rattle.broker.specs.Messages.{take, valueIn}
+use Rattle.transitions.proofs.messages.receive.Statement.{statement}
+use Rattle.transitions.proofs.messages.receive.Tie as tie
+use Rattle.transitions.proofs.messages.receive.Reads as reads
+use Rattle.transitions.proofs.messages.receive.Lts as lts
+use Rattle.transit.proofs.remove.remove.Reads as remove-reads
+use Rattle.transitions.proofs.messages.unread.Reads as unread-reads
+use Rattle.transitions.proofs.messages.value_in.Reads as value-in-reads
+
+-- src/messages.rt:95:9
+remove-requires : tie.Need-remove-requires
+remove-requires c κs = search needs
+
+-- src/messages.rt:98:9
+value-in-requires : tie.Need-value-in-requires
+value-in-requires c κs = search needs
+
+-- src/messages.rt:99:9
+unread-requires : tie.Need-unread-requires
+unread-requires c κs = search needs
+
+-- src/messages.rt:90:1
+returns : tie.Need-returns
+unfolding take
+returns c =
+    let removed = c .before .before .before .remove in
+    let args = c .before .before .before .before .before .args in
+    let after = ap (λ (x : AfterRemove). x .unread) (removed .ensures) in
+    let value = c .before .value-in .ensures ∙ ap (λ (x : AfterRemove). valueIn (x .found)) (removed .ensures) in
+    let left = c .unread .ensures ∙ ap (λ (u : Unread). tally (between (args .a) (args .c)) (u .messages)) after in
+    rw (value, left, after)
+
+pub receive-spec : {M : Type 1} → statement M
+receive-spec = tie.close (tie.spec remove-requires value-in-requires unread-requires returns)

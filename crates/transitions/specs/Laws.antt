@@ -1,0 +1,7 @@
+-- Laws of the definitions that the contracts cite.
+pub mod Judged
+pub mod Messages
+pub mod Migrate
+pub mod Parts
+pub mod Settled
+pub mod Verdict

@@ -1,0 +1,39 @@
+-- Changes of single parts of the state: of the processes, of the tables. Assumes nothing.
+use mathlib.Core.Bool.{cond}
+use mathlib.Core.List.{List}
+use Prim.Native.Nat.{ℕ, _*_}
+use lib.ListN.{getD, set, take, drop}
+use Rattle.transit.specs.declared.Rank.{Rank}
+use Rattle.broker.specs.Names.{asksFor}
+use Rattle.broker.specs.Ranks.{ranks}
+use Rattle.broker.specs.State.{State, idle}
+use Rattle.broker.specs.declared.process.Process.{Process}
+use Rattle.broker.specs.declared.process.Request.{Request}
+use Rattle.broker.specs.declared.process.Request.the-variants.{Absent}
+use Rattle.broker.specs.declared.process.Status.{Status}
+use Rattle.broker.specs.declared.process.Vmid.{Vmid}
+
+-- a rank's process
+abbrev pub processIn : List Process → Rank → Process
+processIn ps r = getD ps (r .0) idle
+
+-- a rank's standing, and nothing else
+abbrev pub setStatus : Rank → Status → List Process → List Process
+setStatus r t ps = set ps (r .0) (record { status = t; request = processIn ps r .request })
+
+-- a rank's call, and nothing else
+abbrev pub setRequest : Rank → Request → List Process → List Process
+setRequest r q ps = set ps (r .0) (record { status = processIn ps r .status; request = q })
+
+-- a's call closes if it goes to b
+abbrev pub withdrawn : Rank → Rank → List Process → List Process
+withdrawn a b ps = cond (asksFor b (processIn ps a .request)) (setRequest a Absent ps) ps
+
+-- a's table: "every rank keeps a table of sixteen vmids"
+abbrev pub tableOf : Rank → List Vmid → List Vmid
+tableOf a ls = take ranks (drop (ranks * (a .0)) ls)
+
+-- all processes of a state
+abbrev pub withProcesses : List Process → State → State
+withProcesses ps s =
+    record { processes = ps; locations = s .locations; links = s .links; drawn = s .drawn; unread = s .unread }
