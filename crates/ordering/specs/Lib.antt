@@ -11,3 +11,6 @@ pub mod Open
 pub mod Computed
 pub mod Examples
 pub mod Listing
+pub mod Run
+pub mod RunLaws
+pub mod FromFresh
