@@ -48,6 +48,7 @@ rises fits cellOf numberOf last (x ∷ xs) =
     fits x &&
     (leb (getD last (cellOf x) 0) (numberOf x) && rises fits cellOf numberOf (set last (cellOf x) (numberOf x)) xs)
 
+-- "At most 1,024 messages stand."; and "Within a pair, places never fall along the order of sending."
 unfoldable pub messagesSound : List Process → List Link → Unread → Bool
 messagesSound ps ls u =
     leb (u .count) limit && rises (messageSoundAt ps ls) pairOf number (replicate 256 0) (u .messages)

@@ -55,5 +55,6 @@ abbrev pub pairSoundAt : List ℕ → List Process → List Vmid → List Link �
 pairSoundAt drawn ps vs ls a b =
     pairSound drawn a b (getD ps (a .0) idle) (getD ps (b .0) idle) (getD vs (cell a b) unknown) (linkAt ls a b) (linkAt ls b a)
 
+-- every rank and every rank
 unfoldable pub pairsSound : List ℕ → List Process → List Vmid → List Link → Bool
 pairsSound drawn ps vs ls = everyPair (pairSoundAt drawn ps vs ls)

@@ -30,5 +30,6 @@ rankSound drawn r p own = vmidsDrawn drawn (p .status) && requestDrawn drawn (p 
 abbrev pub rankSoundAt : List ℕ → List Process → List Link → Rank → Bool
 rankSoundAt drawn ps ls r = rankSound drawn r (getD ps (r .0) idle) (linkAt ls r r)
 
+-- every rank
 unfoldable pub ranksSound : List ℕ → List Process → List Link → Bool
 ranksSound drawn ps ls = everyRank (rankSoundAt drawn ps ls)

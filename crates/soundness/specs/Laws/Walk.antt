@@ -21,7 +21,7 @@ pub allBelow-fails : (n : ℕ) (f : ℕ → Bool) (k : ℕ) → k < n → f k �
 allBelow-fails n f k inside fails =
     same-truth (allBelow n f) false (λ h. absurd (not-both (allBelow-at n f h k inside) fails)) (λ h. absurd (not-both h refl))
 
--- Each number below 256 is the cell of a row and a column.
+-- Each number is the cell of its row and its column.
 pub cell-of : (k : ℕ) → cell (rank (k / 16)) (rank (k % 16)) ≡ k
 cell-of k = omega arith
 

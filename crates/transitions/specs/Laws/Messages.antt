@@ -11,7 +11,7 @@ use borrow.Author.Tests.{eqb-false, ne-eqb}
 use lib.Dec.{eqb}
 use lib.ListN.{length}
 use Rattle.transit.specs.Lists.{tally, select}
-use Rattle.transit.specs.Message.{picks, to, between}
+use Rattle.transit.specs.Message.{to, between}
 use Rattle.transit.specs.Unread.{head, firstSent}
 use Rattle.transit.specs.declared.Message.{Message}
 use Rattle.transit.specs.declared.Rank.{Rank}

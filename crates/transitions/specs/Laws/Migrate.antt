@@ -29,7 +29,7 @@ module _ (f : ℕ → Bool) where
   pub count-failed : (i n : ℕ) → f i ≡ false → n ≡ countBelow i f → n ≡ countBelow (i + 1) f
   count-failed i n t h = rw (add-one, t, h)
 
-  -- all numbers pass the test exactly where none counts that does not
+  -- all numbers pass the test exactly where the count of those that do not is 0
   pub all-pass : (n : ℕ) → allBelow n f ≡ eqb (countBelow n (λ k. not (f k))) 0
   all-pass zero = refl
   all-pass (suc n) = at (f n) (all-pass n)
@@ -38,6 +38,7 @@ module _ (f : ℕ → Bool) where
       at true h = rw and-true h
       at false h = rw (and-false, ne-eqb (suc (countBelow n (λ k. not (f k)))) 0 (λ e. omega arith))
 
+-- and so do all ranks
 pub every-passes : (f : Rank → Bool) → everyRank f ≡ eqb (countRanks (λ p. not (f p))) 0
 unfolding everyRank countRanks
 every-passes f = all-pass (λ n. f (rank n)) 16

@@ -8,20 +8,13 @@ use Rattle.transit.specs.Unread.{Unread, AfterAppend}
 use Rattle.transitions.specs.Messages.{deliver}
 use Rattle.transitions.proofs.messages.deliver.Statement.{statement}
 use Rattle.transitions.proofs.messages.deliver.Tie as tie
-use Rattle.transitions.proofs.messages.deliver.Reads as reads
-use Rattle.transitions.proofs.messages.deliver.Lts as lts
-use Rattle.transit.proofs.append.append.Reads as append-reads
-use Rattle.transitions.proofs.messages.unread.Reads as unread-reads
 
--- src/messages.rt:78:9
 append-requires : tie.Need-append-requires
 append-requires c κs = search needs
 
--- src/messages.rt:80:9
 unread-requires : tie.Need-unread-requires
 unread-requires c κs = search needs
 
--- src/messages.rt:72:1
 returns : tie.Need-returns
 unfolding deliver
 returns c =

@@ -1,6 +1,6 @@
 -- `transitions::messages::look` meets its contract: the checks give the refusal of the definition, and where none applies the sender of the first message is named.
 -- Assumes nothing.
-use mathlib.Core.Path.{_≡_, _∙_}
+use mathlib.Core.Path.{_≡_}
 use borrow.Author.Needs.{needs}
 use Rattle.broker.specs.Checks.{refusal}
 use Rattle.broker.specs.Messages.{look}

@@ -8,25 +8,16 @@ use Rattle.transit.specs.Unread.{Unread, AfterRemove}
 use Rattle.broker.specs.Messages.{take, valueIn}
 use Rattle.transitions.proofs.messages.receive.Statement.{statement}
 use Rattle.transitions.proofs.messages.receive.Tie as tie
-use Rattle.transitions.proofs.messages.receive.Reads as reads
-use Rattle.transitions.proofs.messages.receive.Lts as lts
-use Rattle.transit.proofs.remove.remove.Reads as remove-reads
-use Rattle.transitions.proofs.messages.unread.Reads as unread-reads
-use Rattle.transitions.proofs.messages.value_in.Reads as value-in-reads
 
--- src/messages.rt:95:9
 remove-requires : tie.Need-remove-requires
 remove-requires c κs = search needs
 
--- src/messages.rt:98:9
 value-in-requires : tie.Need-value-in-requires
 value-in-requires c κs = search needs
 
--- src/messages.rt:99:9
 unread-requires : tie.Need-unread-requires
 unread-requires c κs = search needs
 
--- src/messages.rt:90:1
 returns : tie.Need-returns
 unfolding take
 returns c =

@@ -1,6 +1,6 @@
 -- `transitions::migrate::leaving::leave_all` meets its contract. The loop's invariant: the ranks below `i` are left, and no other.
 -- Assumes nothing.
-use mathlib.Core.Path.{_≡_, refl, ap}
+use mathlib.Core.Path.{_≡_}
 use Prim.Native.Nat.{_≤_, _-_}
 use native.Mathlib.Numerals.{add-one}
 use native.Mathlib.Omega.{arith}
