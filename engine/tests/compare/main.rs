@@ -5,6 +5,7 @@
 
 mod alike;
 mod bits;
+mod examples;
 mod expected;
 mod garbage;
 mod limits;
