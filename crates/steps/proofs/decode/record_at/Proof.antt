@@ -1,62 +1,45 @@
+-- `steps::decode::record_at` meets its contract: a send is read whole, and every other kind from its two bytes. Assumes nothing.
 use borrow.Author.Needs.{needs}
 use Rattle.steps.specs.Record.{short-is-record, send-is-record}
 use Rattle.steps.proofs.decode.record_at.Statement.{statement}
 use Rattle.steps.proofs.decode.record_at.Tie as tie
-use Rattle.steps.proofs.decode.record_at.Reads as reads
-use Rattle.steps.proofs.decode.record_at.Lts as lts
-use Rattle.steps.proofs.decode.byte_at.Reads as byte-at-reads
-use Rattle.steps.proofs.decode.short_record.Reads as short-record-reads
-use Rattle.steps.proofs.decode.value_of.Reads as value-of-reads
 
--- src/decode.rt:61:9
 byte-at-requires : tie.Need-byte-at-requires
 byte-at-requires c κs = search needs
 
--- src/decode.rt:62:31
 add-byte-at : tie.Need-add-byte-at
 add-byte-at c = search needs
 
--- src/decode.rt:62:9
 byte-at-requires-2 : tie.Need-byte-at-requires-2
 byte-at-requires-2 c κs = search needs
 
--- src/decode.rt:64:31
 add-byte-at-2 : tie.Need-add-byte-at-2
 add-byte-at-2 c = search needs
 
--- src/decode.rt:64:13
 byte-at-requires-3 : tie.Need-byte-at-requires-3
 byte-at-requires-3 c κs = search needs
 
--- src/decode.rt:65:31
 add-byte-at-3 : tie.Need-add-byte-at-3
 add-byte-at-3 c = search needs
 
--- src/decode.rt:65:13
 byte-at-requires-4 : tie.Need-byte-at-requires-4
 byte-at-requires-4 c κs = search needs
 
--- src/decode.rt:66:31
 add-byte-at-4 : tie.Need-add-byte-at-4
 add-byte-at-4 c = search needs
 
--- src/decode.rt:66:13
 byte-at-requires-5 : tie.Need-byte-at-requires-5
 byte-at-requires-5 c κs = search needs
 
--- src/decode.rt:67:31
 add-byte-at-5 : tie.Need-add-byte-at-5
 add-byte-at-5 c = search needs
 
--- src/decode.rt:67:13
 byte-at-requires-6 : tie.Need-byte-at-requires-6
 byte-at-requires-6 c κs = search needs
 
--- src/decode.rt:68:13
 value-of-requires : tie.Need-value-of-requires
 value-of-requires c κs = search needs
 
--- src/decode.rt:69:9
 returns : tie.Need-returns
 returns c =
     let taken = c .before .before .before .before .before in
@@ -73,11 +56,9 @@ returns c =
       second .before .byte-at .ensures,
     )
 
--- src/decode.rt:71:5
 short-record-requires : tie.Need-short-record-requires
 short-record-requires c κs = search needs
 
--- src/decode.rt:57:1
 returns-2 : tie.Need-returns-2
 returns-2 c =
     let left = c .before in
