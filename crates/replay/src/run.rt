@@ -3,6 +3,7 @@ use crate::lines::last_lines;
 use crate::lines::record_line;
 use crate::page::flush;
 use broker::state::Broker;
+use libc::STDERR_FILENO;
 use libc::STDIN_FILENO;
 use steps::step_sound;
 
@@ -151,7 +152,7 @@ fn turn_over(t: Turn, buffer: &mut [u8; 65536], page: &mut [u8; 65536]) -> Turn 
     let filled = read_more(buffer, t.held);
     if filled.failed {
         flush(page, s.used);
-        os::fail(b"replay: standard input");
+        io::write_all(STDERR_FILENO, b"replay: standard input cannot be read\n");
         return Turn {
             run: s,
             held: t.held,

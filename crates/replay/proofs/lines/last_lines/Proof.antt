@@ -1,12 +1,9 @@
+-- `replay::lines::last_lines` is safe and ends. The invariants bound the two ranks, and the measures are how many are left. Assumes nothing.
 use borrow.Author.Needs.{needs}
 use Prim.Native.Nat.{_-_, _<_, _≤_}
 use Prim.Native.Nat.{_-_, _<_, _≤_}
 use Rattle.replay.proofs.lines.last_lines.Statement.{statement}
 use Rattle.replay.proofs.lines.last_lines.Tie as tie
-use Rattle.replay.proofs.lines.last_lines.Reads as reads
-use Rattle.replay.proofs.lines.last_lines.Lts as lts
-use Rattle.replay.proofs.lines.pair_line.Reads as pair-line-reads
-use Rattle.replay.proofs.page.put.Reads as put-reads
 
 abbrev Inv-loop2 : tie.InvT-loop2
 Inv-loop2 page₀ used t at₀ a b₀ page at b = (a < 16) × (b ≤ 16)
@@ -20,59 +17,45 @@ Inv-loop page₀ used t at₀ a₀ page at a = a ≤ 16
 abbrev μ-loop : tie.MeasureT-loop
 μ-loop page₀ used t at₀ a₀ page at a = 16 - a
 
--- src/lines.rt:42:5
 loop-holds : tie.Need-loop-holds Inv-loop2 μ-loop2 Inv-loop μ-loop
 loop-holds c = search needs
 
--- src/lines.rt:43:9
 loop2-holds : tie.Need-loop2-holds Inv-loop2 μ-loop2 Inv-loop μ-loop
 loop2-holds c = search needs
 
--- src/lines.rt:44:13
 pair-line-requires : tie.Need-pair-line-requires Inv-loop2 μ-loop2 Inv-loop μ-loop
 pair-line-requires c κs = search needs
 
--- src/lines.rt:43:13
 add-b : tie.Need-add-b Inv-loop2 μ-loop2 Inv-loop μ-loop
 add-b c = search needs
 
--- src/lines.rt:43:9
 loop2-less : tie.Need-loop2-less Inv-loop2 μ-loop2 Inv-loop μ-loop
 loop2-less c = search needs
 
--- src/lines.rt:43:9
 loop2-again : tie.Need-loop2-again Inv-loop2 μ-loop2 Inv-loop μ-loop
 loop2-again c = search needs
 
--- src/lines.rt:42:9
 add-a : tie.Need-add-a Inv-loop2 μ-loop2 Inv-loop μ-loop
 add-a c = search needs
 
--- src/lines.rt:42:5
 loop-less : tie.Need-loop-less Inv-loop2 μ-loop2 Inv-loop μ-loop
 loop-less c = search needs
 
--- src/lines.rt:42:5
 loop-again : tie.Need-loop-again Inv-loop2 μ-loop2 Inv-loop μ-loop
 loop-again c = search needs
 
--- src/lines.rt:47:5
 put-requires : tie.Need-put-requires Inv-loop2 μ-loop2 Inv-loop μ-loop
 put-requires c κs = search needs
 
--- src/lines.rt:48:5
 put-requires-2 : tie.Need-put-requires-2 Inv-loop2 μ-loop2 Inv-loop μ-loop
 put-requires-2 c κs = search needs
 
--- src/lines.rt:49:5
 put-requires-3 : tie.Need-put-requires-3 Inv-loop2 μ-loop2 Inv-loop μ-loop
 put-requires-3 c κs = search needs
 
--- src/lines.rt:50:5
 put-requires-4 : tie.Need-put-requires-4 Inv-loop2 μ-loop2 Inv-loop μ-loop
 put-requires-4 c κs = search needs
 
--- src/lines.rt:40:1
 returns : tie.Need-returns Inv-loop2 μ-loop2 Inv-loop μ-loop
 returns c = search needs
 

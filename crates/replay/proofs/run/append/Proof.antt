@@ -1,11 +1,10 @@
+-- `replay::run::append` is safe and ends. The measure is how many bytes are left. Assumes nothing.
 use borrow.Author.Needs.{needs}
 use Prim.Native.Nat.{_-_}
 use Prim.Native.Nat.{_-_}
 use Prim.Native.Nat.{_-_}
 use Rattle.replay.proofs.run.append.Statement.{statement}
 use Rattle.replay.proofs.run.append.Tie as tie
-use Rattle.replay.proofs.run.append.Reads as reads
-use Rattle.replay.proofs.run.append.Lts as lts
 
 abbrev Inv-loop : tie.InvT-loop
 Inv-loop buffer₀ held chunk count at₀ i₀ buffer at i = Unit {0}
@@ -13,43 +12,33 @@ Inv-loop buffer₀ held chunk count at₀ i₀ buffer at i = Unit {0}
 abbrev μ-loop : tie.MeasureT-loop
 μ-loop buffer₀ held chunk count at₀ i₀ buffer at i = count - i
 
--- src/run.rt:69:5
 loop-holds : tie.Need-loop-holds Inv-loop μ-loop
 loop-holds c = search needs
 
--- src/run.rt:71:13
 returns : tie.Need-returns Inv-loop μ-loop
 returns c = search needs
 
--- src/run.rt:74:13
 returns-2 : tie.Need-returns-2 Inv-loop μ-loop
 returns-2 c = search needs
 
--- src/run.rt:76:20
 element-copy-out-byte : tie.Need-element-copy-out-byte Inv-loop μ-loop
 element-copy-out-byte c = search needs
 
--- src/run.rt:77:9
 element-write-buffer : tie.Need-element-write-buffer Inv-loop μ-loop
 element-write-buffer c = search needs
 
--- src/run.rt:78:9
 add-at : tie.Need-add-at Inv-loop μ-loop
 add-at c = search needs
 
--- src/run.rt:79:9
 add-i : tie.Need-add-i Inv-loop μ-loop
 add-i c = search needs
 
--- src/run.rt:69:5
 loop-less : tie.Need-loop-less Inv-loop μ-loop
 loop-less c = search needs
 
--- src/run.rt:69:5
 loop-again : tie.Need-loop-again Inv-loop μ-loop
 loop-again c = search needs
 
--- src/run.rt:66:1
 returns-3 : tie.Need-returns-3 Inv-loop μ-loop
 returns-3 c = search needs
 

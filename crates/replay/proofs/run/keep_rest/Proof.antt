@@ -1,11 +1,10 @@
+-- `replay::run::keep_rest` is safe and ends. The measure is how many bytes are left. Assumes nothing.
 use borrow.Author.Needs.{needs}
 use Prim.Native.Nat.{_-_}
 use Prim.Native.Nat.{_-_}
 use Prim.Native.Nat.{_-_}
 use Rattle.replay.proofs.run.keep_rest.Statement.{statement}
 use Rattle.replay.proofs.run.keep_rest.Tie as tie
-use Rattle.replay.proofs.run.keep_rest.Reads as reads
-use Rattle.replay.proofs.run.keep_rest.Lts as lts
 
 abbrev Inv-loop : tie.InvT-loop
 Inv-loop buffer₀ from end kept₀ i₀ buffer kept i = Unit {0}
@@ -13,43 +12,33 @@ Inv-loop buffer₀ from end kept₀ i₀ buffer kept i = Unit {0}
 abbrev μ-loop : tie.MeasureT-loop
 μ-loop buffer₀ from end kept₀ i₀ buffer kept i = end - i
 
--- src/run.rt:88:5
 loop-holds : tie.Need-loop-holds Inv-loop μ-loop
 loop-holds c = search needs
 
--- src/run.rt:90:13
 returns : tie.Need-returns Inv-loop μ-loop
 returns c = search needs
 
--- src/run.rt:93:13
 returns-2 : tie.Need-returns-2 Inv-loop μ-loop
 returns-2 c = search needs
 
--- src/run.rt:95:20
 element-copy-out-byte : tie.Need-element-copy-out-byte Inv-loop μ-loop
 element-copy-out-byte c = search needs
 
--- src/run.rt:96:9
 element-write-buffer : tie.Need-element-write-buffer Inv-loop μ-loop
 element-write-buffer c = search needs
 
--- src/run.rt:97:9
 add-kept : tie.Need-add-kept Inv-loop μ-loop
 add-kept c = search needs
 
--- src/run.rt:98:9
 add-i : tie.Need-add-i Inv-loop μ-loop
 add-i c = search needs
 
--- src/run.rt:88:5
 loop-less : tie.Need-loop-less Inv-loop μ-loop
 loop-less c = search needs
 
--- src/run.rt:88:5
 loop-again : tie.Need-loop-again Inv-loop μ-loop
 loop-again c = search needs
 
--- src/run.rt:85:1
 returns-3 : tie.Need-returns-3 Inv-loop μ-loop
 returns-3 c = search needs
 

@@ -1,52 +1,38 @@
+-- `replay::run::read_more` is safe: the part that is read into is within the chunk, which keeps its length. Assumes nothing.
 use borrow.Author.Needs.{needs}
 use mathlib.Core.Path.{sym, _∙_}
 use Prim.Native.Nat.{_-_}
 use lib.Seq.{length-take-le, length-front}
 use Rattle.replay.proofs.run.read_more.Statement.{statement}
 use Rattle.replay.proofs.run.read_more.Tie as tie
-use Rattle.replay.proofs.run.read_more.Reads as reads
-use Rattle.replay.proofs.run.read_more.Lts as lts
-use Rattle.io.proofs.count.Reads as count-reads
-use Rattle.io.proofs.large_buffer.Reads as large-buffer-reads
-use Rattle.libc.proofs.read.Reads as read-reads
-use Rattle.replay.proofs.run.append.Reads as append-reads
 
--- src/run.rt:111:21
 large-buffer-requires : tie.Need-large-buffer-requires
 large-buffer-requires c κs = search needs
 
--- src/run.rt:113:9
 returns : tie.Need-returns
 returns c = search needs
 
--- src/run.rt:118:40
 array-borrow-prefix-chunk : tie.Need-array-borrow-prefix-chunk
 array-borrow-prefix-chunk c = search needs
 
--- src/run.rt:118:40
 slice-aggregate-read : tie.Need-slice-aggregate-read
 slice-aggregate-read c = sym (length-take-le _ _ (array-borrow-prefix-chunk (c .before)))
 
--- src/run.rt:118:9
 read-requires : tie.Need-read-requires
 read-requires c κs = search needs
 
--- src/run.rt:119:31
 slice-aggregate-count : tie.Need-slice-aggregate-count
 slice-aggregate-count c =
     let read = c .before .before in
     let chunk = read .before .before .before in
     chunk .large-buffer .ensures ∙ sym (length-front (chunk .large-buffer .result) (read .read .last .1 .0) (65536 - chunk .before .args .held) (read .read .kept .1 .0))
 
--- src/run.rt:119:9
 count-requires : tie.Need-count-requires
 count-requires c κs = search needs
 
--- src/run.rt:120:9
 append-requires : tie.Need-append-requires
 append-requires c κs = search needs
 
--- src/run.rt:110:1
 returns-2 : tie.Need-returns-2
 returns-2 c = search needs
 

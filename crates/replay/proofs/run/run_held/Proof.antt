@@ -1,29 +1,22 @@
+-- `replay::run::run_held` is safe: the part that is lent is within the buffer. Assumes nothing.
 use borrow.Author.Needs.{needs}
 use mathlib.Core.Path.{sym}
 use lib.Seq.{length-take-le}
 use Rattle.replay.proofs.run.run_held.Statement.{statement}
 use Rattle.replay.proofs.run.run_held.Tie as tie
-use Rattle.replay.proofs.run.run_held.Reads as reads
-use Rattle.replay.proofs.run.run_held.Lts as lts
-use Rattle.replay.proofs.run.run_records.Reads as run-records-reads
 
--- src/run.rt:60:9
 returns : tie.Need-returns
 returns c = search needs
 
--- src/run.rt:62:20
 array-share-prefix-buffer : tie.Need-array-share-prefix-buffer
 array-share-prefix-buffer c = search needs
 
--- src/run.rt:62:20
 slice-aggregate-run-records : tie.Need-slice-aggregate-run-records
 slice-aggregate-run-records c = sym (length-take-le _ _ (array-share-prefix-buffer (c .before)))
 
--- src/run.rt:62:5
 run-records-requires : tie.Need-run-records-requires
 run-records-requires c κs = search needs
 
--- src/run.rt:58:1
 returns-2 : tie.Need-returns-2
 returns-2 c = search needs
 

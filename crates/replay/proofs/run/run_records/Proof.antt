@@ -1,11 +1,9 @@
+-- `replay::run::run_records` is safe and ends. The measure is the number of turns that are left. Assumes nothing.
 use borrow.Author.Needs.{needs}
 use Prim.Native.Nat.{_-_}
 use Prim.Native.Nat.{_-_}
 use Rattle.replay.proofs.run.run_records.Statement.{statement}
 use Rattle.replay.proofs.run.run_records.Tie as tie
-use Rattle.replay.proofs.run.run_records.Reads as reads
-use Rattle.replay.proofs.run.run_records.Lts as lts
-use Rattle.replay.proofs.run.step_and_print.Reads as step-and-print-reads
 
 abbrev Inv-loop : tie.InvT-loop
 Inv-loop log base last page₀ now₀ turns₀ page now turns = Unit {0}
@@ -13,43 +11,33 @@ Inv-loop log base last page₀ now₀ turns₀ page now turns = Unit {0}
 abbrev μ-loop : tie.MeasureT-loop
 μ-loop log base last page₀ now₀ turns₀ page now turns = turns
 
--- src/run.rt:40:5
 loop-holds : tie.Need-loop-holds Inv-loop μ-loop
 loop-holds c = search needs
 
--- src/run.rt:43:13
 returns : tie.Need-returns Inv-loop μ-loop
 returns c = search needs
 
--- src/run.rt:46:13
 returns-2 : tie.Need-returns-2 Inv-loop μ-loop
 returns-2 c = search needs
 
--- src/run.rt:48:21
 sub-if4 : tie.Need-sub-if4 Inv-loop μ-loop
 sub-if4 c = search needs
 
--- src/run.rt:49:13
 returns-3 : tie.Need-returns-3 Inv-loop μ-loop
 returns-3 c = search needs
 
--- src/run.rt:51:9
 step-and-print-requires : tie.Need-step-and-print-requires Inv-loop μ-loop
 step-and-print-requires c κs = search needs
 
--- src/run.rt:52:9
 sub-turns : tie.Need-sub-turns Inv-loop μ-loop
 sub-turns c = search needs
 
--- src/run.rt:40:5
 loop-less : tie.Need-loop-less Inv-loop μ-loop
 loop-less c = search needs
 
--- src/run.rt:40:5
 loop-again : tie.Need-loop-again Inv-loop μ-loop
 loop-again c = search needs
 
--- src/run.rt:37:1
 returns-4 : tie.Need-returns-4 Inv-loop μ-loop
 returns-4 c = search needs
 
