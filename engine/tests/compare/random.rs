@@ -1,5 +1,5 @@
 //! Pseudo-random logs, most of whose steps are accepted, of several mixes and
-//! lengths; and many of them spoiled: cut at every byte of their last record,
+//! lengths; and each of them spoiled: cut at every byte of its last record,
 //! and with single bytes changed.
 
 use crate::bits::Bits;
@@ -138,10 +138,8 @@ pub fn logs() -> Vec<Log> {
         let (mix_name, mix) = MIXES[index % MIXES.len()];
         let bytes = random_log(1 + index as u64, mix, records(index));
         let log = Log::new(format!("random-{index}-{mix_name}"), bytes, feed(index));
-        if records(index) <= 120 {
-            logs.extend(cut(&log));
-            logs.extend(changed(&log, &mut bits));
-        }
+        logs.extend(cut(&log));
+        logs.extend(changed(&log, &mut bits));
         logs.push(log);
     }
     logs
