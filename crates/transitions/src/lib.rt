@@ -9,7 +9,7 @@ pub mod messages;
 pub mod migrate;
 pub mod read;
 pub mod verdict;
-pub mod write;
+mod write;
 
 // What a record comes to: the answer, and the state afterwards.
 pub struct Settled {
