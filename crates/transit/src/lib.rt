@@ -29,8 +29,8 @@ pub enum Place {
 pub struct Message {
     pub sender: Rank,
     pub receiver: Rank,
-    pub value: u32,
     pub place: Place,
+    pub value: u32,
 }
 
 // Which messages a routine is about.

@@ -138,6 +138,14 @@ module _ {A : Type 0} where
   length-without q [] some = omega arith
   length-without q (x ∷ l) some = by-test (q x) (λ e. simp e) (λ e. simp (e, length-without q l (rw e at some)))
 
+  -- Where q is the narrower test and something passes it, one fewer passes p without the first that passes q.
+  pub tally-without : (p q : A → Bool) → ((x : A) → q x ≡ true → p x ≡ true) → (l : List A) → 0 < tally q l → suc (tally p (without q l)) ≡ tally p l
+  tally-without p q within [] some = omega arith
+  tally-without p q within (x ∷ l) some =
+      by-test (q x)
+      (λ e. simp (e, within x e))
+      (λ e. by-test (p x) (λ h. simp (e, h, tally-without p q within l (rw e at some))) (λ h. simp (e, h, tally-without p q within l (rw e at some))))
+
   -- A change of the first that passes keeps the length.
   pub length-changeFirst : (q : A → Bool) (f : A → A) (l : List A) → length (changeFirst q f l) ≡ length l
   length-changeFirst q f [] = refl

@@ -6,18 +6,20 @@ use Prim.Native.Nat.{ℕ, suc, _+_, _<_, _≤_, min}
 use native.Mathlib.Nat.{zero-add}
 use native.Mathlib.Omega.{arith}
 use borrow.Author.Tests.{lt-ltb, le-ltb, ltb-true, ltb-false, eq-eqb, ne-eqb, eqb-true}
+use mathlib.Core.Bool.{_&&_}
 use lib.Dec.{ltb}
 use lib.ListN.{length, getD}
-use Rattle.transit.specs.Lists.{indexOf, eraseAt}
-use Rattle.transit.specs.Message.{number, placeOrder}
+use Rattle.transit.specs.Lists.{tally, indexOf, eraseAt}
+use Rattle.transit.specs.Message.{number, at, picks, placeOrder}
 use Rattle.transit.specs.Seek.{key, seekFrom, sought}
 use Rattle.transit.specs.Unread.{head, takeOut}
 use Rattle.transit.specs.declared.Found.the-variants.{First}
 use Rattle.transit.specs.declared.Message.{Message}
 use Rattle.transit.specs.declared.Selection.{Selection}
 use Rattle.transit.specs.declared.remove.Sought.{Sought}
-use Rattle.transit.specs.Laws.Tests.{by-test}
-use Rattle.transit.specs.Laws.Indices.{indexOf-passes, without-erases}
+use Rattle.transit.specs.Laws.Tests.{by-test, both-left}
+use Rattle.transit.specs.Laws.Lists.{tally-without}
+use Rattle.transit.specs.Laws.Indices.{indexOf-passes, select-found, without-erases}
 use Rattle.transit.specs.Laws.ByKey.{hasKey, least, some-least, byKey-least, byKey-none}
 use Rattle.transit.specs.Laws.Order.{key-below-four, key-is-place, placeOrder-by-keys}
 
@@ -68,11 +70,12 @@ sought-nothing s l best is none =
     absurd (omega (arith, ap (λ (b : Sought). b .least) (is ∙ seek-finds (key s) 4 l 0 start (omega arith) less))))
     (λ e. placeOrder-by-keys s l ∙ byKey-none (key s) 4 l 0 4 (omega (arith, ltb-false)))
 
--- A message stands at an index and is the head of place order, and to take it out is to leave out what stands there.
+-- A message stands at an index and is the head of place order, and to take it out is to leave out what stands there. One fewer is then selected.
 pub record Stands (s : Selection) (l : List Message) (i : ℕ) (m : Message) : Type 0 where
   pub inside : i < length l
   pub first : head (placeOrder s l) ≡ First m
   pub leaves : takeOut s m l ≡ eraseAt i l
+  pub fewer : suc (tally (picks s) (takeOut s m l)) ≡ tally (picks s) l
 
 -- The first of the least key so stands.
 stands : (s : Selection) (l : List Message) (d : Message) → least (key s) 4 l < 4
@@ -87,6 +90,9 @@ stands s l d less =
       inside = inside;
       first = rw (placeOrder-by-keys s l, byKey-least (key s) 4 l d less 0 4 (omega arith) (omega arith) .1);
       leaves = rw (key-is-place s (m .place), place) (without-erases (hasKey (key s) n) l);
+      fewer =
+          tally-without (picks s) (λ x. picks s x && at (m .place) x) (λ x. both-left (picks s x) _) l
+          (rw (key-is-place s (m .place), place, select-found (hasKey (key s) n) l d inside) (omega arith));
     }
 
 -- Where the least is a place's number, the head of place order stands where the search says.

@@ -1,4 +1,5 @@
--- `transit::remove::seek` meets its contract. The loop's invariant: the search from here comes to what the search of the whole does.
+-- `transit::remove::seek` meets its contract. The loop's invariant: the search from here comes to what the search of the whole does, and
+-- the count so far and the tally of what is left are the tally of all.
 -- Assumes nothing.
 use mathlib.Core.Path.{_≡_, sym, _∙_}
 use mathlib.Core.Logic.{⊎-elim}
@@ -6,6 +7,8 @@ use Prim.Native.Nat.{_≤_, _-_, _+_, _<_}
 use native.Mathlib.Omega.{arith}
 use borrow.Author.Needs.{needs}
 use lib.ListN.{length, drop, getD, drop-of-length-le}
+use Rattle.transit.specs.Lists.{tally}
+use Rattle.transit.specs.Message.{picks}
 use Rattle.transit.specs.Unread.{view}
 use Rattle.transit.specs.Seek.{key, seekFrom, sought}
 use Rattle.transit.specs.Laws.Order.{key-picked, key-other}
@@ -15,10 +18,12 @@ use Rattle.transit.proofs.remove.seek.Statement.{statement}
 use Rattle.transit.proofs.remove.seek.Tie as tie
 
 abbrev Inv-loop : tie.InvT-loop
-Inv-loop s t end best₀ i₀ best i = (i ≤ end) × (best .least ≤ 4) × (seekFrom (key s) (drop i (view t .messages)) i best ≡ sought s (view t .messages))
+Inv-loop s t end best₀ n₀ i₀ best n i =
+    (i ≤ end) × (best .least ≤ 4) × (seekFrom (key s) (drop i (view t .messages)) i best ≡ sought s (view t .messages)) × (n ≤ i)
+    × (n + tally (picks s) (drop i (view t .messages)) ≡ tally (picks s) (view t .messages))
 
 abbrev μ-loop : tie.MeasureT-loop
-μ-loop s t end best₀ i₀ best i = end - i
+μ-loop s t end best₀ n₀ i₀ best n i = end - i
 
 held-requires : tie.Need-held-requires Inv-loop μ-loop
 held-requires c κs = search needs
@@ -34,6 +39,9 @@ element-copy-out-m c = search needs
 
 picks-requires : tie.Need-picks-requires Inv-loop μ-loop
 picks-requires c κs = search needs
+
+add-n : tie.Need-add-n Inv-loop μ-loop
+add-n c = search needs
 
 number-requires : tie.Need-number-requires Inv-loop μ-loop
 number-requires c κs = search needs
@@ -54,26 +62,27 @@ loop-again c =
     let m = getD (t .messages) i blank in
     let rest = drop (i + 1) (view t .messages) in
     let held : i < length (view t .messages) = omega arith in
-    let left = rw (next t i held) at (head .loop .inv .2) in
     let picked = c .before .picks .ensures in
+    let left = rw (next t i held) at (head .loop .inv .2) in
+    let tallied = rw (next t i held, ← picked) at (head .loop .inv .4) in
     ⊎-elim
     (λ w.
     let is = key-picked s m (sym picked ∙ w .0 .taken) ∙ sym (w .1 .ensures) in
-    rw (w .4) (omega arith, omega arith, sym (seek-less (key s) m rest i best _ is (w .3 .taken)) ∙ left))
+    rw (w .4) (omega arith, omega arith, sym (seek-less (key s) m rest i best _ is (w .3 .taken)) ∙ left, omega arith, omega (arith, rw (w .0 .taken) at tallied)))
     (⊎-elim
     (λ w.
     let is = key-picked s m (sym picked ∙ w .0 .taken) in
-    rw (w .4) (omega arith, omega arith, sym (seek-kept (key s) m rest i best (omega arith)) ∙ left))
+    rw (w .4) (omega arith, omega arith, sym (seek-kept (key s) m rest i best (omega arith)) ∙ left, omega arith, omega (arith, rw (w .0 .taken) at tallied)))
     (λ w.
     let is = key-other s m (sym picked ∙ w .0 .left) in
-    rw (w .1) (omega arith, omega arith, sym (seek-kept (key s) m rest i best (omega arith)) ∙ left)))
+    rw (w .1) (omega arith, omega arith, sym (seek-kept (key s) m rest i best (omega arith)) ∙ left, omega arith, omega (arith, rw (w .0 .left) at tallied))))
     (c .if1 .came)
 
 returns : tie.Need-returns Inv-loop μ-loop
 returns c =
     let head = c .before in
     let done : length (view (head .before .before .args .t1) .messages) ≤ head .loop .i = omega arith in
-    rw (drop-of-length-le _ done) at (head .loop .inv .2)
+    (rw (drop-of-length-le _ done) at (head .loop .inv .2), omega (arith, rw (drop-of-length-le _ done) at (head .loop .inv .4)))
 
 pub seek-spec : {M : Type 1} → statement M
 seek-spec =
@@ -86,6 +95,7 @@ seek-spec =
     mul-m
     element-copy-out-m
     picks-requires
+    add-n
     number-requires
     add-i
     loop-less
