@@ -1,15 +1,11 @@
--- Arrays passed by value, read past their end. Assumes nothing.
+-- Arrays passed by value, copied. Assumes nothing.
 use mathlib.Core.List.{List}
-use mathlib.Core.Path.{_≡_, sym}
-use Prim.Native.Nat.{ℕ, _+_, _≤_, _<_}
+use mathlib.Core.Path.{_≡_}
+use Prim.Native.Nat.{ℕ, _+_, _<_}
 use native.Mathlib.Numerals.{add-one}
 use native.Mathlib.Omega.{arith}
-use lib.ListN.{length, getD, set, take, drop, length-drop, List·getD-eq-default}
+use lib.ListN.{length, getD, set, take, drop, length-drop}
 use lib.Seq.{take-suc, take-suc-set, getD-drop}
-
--- A read past the end of so many elements gives what such a read gives.
-pub past-end : {A : Type 0} (l : List A) (d : A) (n k : ℕ) → length l ≡ n → n ≤ k → d ≡ getD l k d
-past-end l d n k e h = sym (List·getD-eq-default l d {n = k} (rw e h))
 
 -- One element more copied from the other list, from a base on: so many elements are the same.
 pub copy-next : {A : Type 0} (l from : List A) (base i : ℕ) (d : A) → i < length l → base + i < length from → take i l ≡ take i (drop base from) → take (i + 1) (set l i (getD from (base + i) d)) ≡ take (i + 1) (drop base from)

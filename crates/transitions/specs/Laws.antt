@@ -3,5 +3,3 @@ pub mod Judged
 pub mod Messages
 pub mod Migrate
 pub mod Parts
-pub mod Settled
-pub mod Verdict

@@ -3,6 +3,4 @@ pub mod Laws
 pub mod Messages
 pub mod Migrate
 pub mod Parts
-pub mod Settled
 pub mod Tests
-pub mod Verdict

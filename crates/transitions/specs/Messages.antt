@@ -1,6 +1,5 @@
 -- Send, take and look: the tests of each, and what the code of each speaks of besides the definitions.
 -- Paper 01, "The step log", kinds 04, 05 and 0C. Assumes nothing.
-use mathlib.Core.Bool.{Bool, true, false}
 use mathlib.Core.List.{List, [], _∷_, _++_}
 use Prim.Native.Nat.{ℕ}
 use lib.Dec.{leb}
@@ -18,13 +17,9 @@ use Rattle.broker.specs.State.{State, withUnread}
 use Rattle.broker.specs.declared.answer.Refusal.the-variants.{NotConnected, NothingUnread, Full}
 use Rattle.broker.specs.declared.link.Connection.{Connection}
 use Rattle.broker.specs.declared.process.Status.{Status}
-use Rattle.transitions.specs.Tests.{oneTests, twoTests, runningTests}
-use Rattle.transitions.specs.Verdict.{Test, test}
-
--- a search found nothing
-abbrev pub isNothing : Found → Bool
-isNothing Nothing = true
-isNothing (First m) = false
+use Rattle.checks.specs.Tests.{oneTests, twoTests, runningTests}
+use Rattle.checks.specs.Unread.{isNothing}
+use Rattle.checks.specs.Verdict.{Test, test}
 
 -- send: of the two ranks' standings, of the first one's line to the second, and of how many messages are unread
 abbrev pub sendTests : Rank → Rank → Status → Status → Connection → ℕ → List Test

@@ -15,9 +15,9 @@ use Rattle.broker.specs.declared.link.Connection.{Connection}
 use Rattle.broker.specs.declared.link.Link.{Link}
 use Rattle.broker.specs.declared.process.Process.{Process}
 use Rattle.broker.specs.declared.process.Status.{Status}
-use Rattle.transitions.specs.Messages.{isNothing}
-use Rattle.transitions.specs.Tests.{oneTests, twoTests, runningTests}
-use Rattle.transitions.specs.Verdict.{Test, test}
+use Rattle.checks.specs.Unread.{isNothing}
+use Rattle.checks.specs.Tests.{oneTests, twoTests, runningTests}
+use Rattle.checks.specs.Verdict.{Test, test}
 
 -- 9 and 11, of the first rank's standing
 abbrev pub migratingTests : Status → List Test

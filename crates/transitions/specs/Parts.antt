@@ -2,28 +2,15 @@
 use mathlib.Core.Bool.{cond}
 use mathlib.Core.List.{List}
 use Prim.Native.Nat.{_*_}
-use lib.ListN.{getD, set, take, drop}
+use lib.ListN.{take, drop}
 use Rattle.transit.specs.declared.Rank.{Rank}
 use Rattle.broker.specs.Names.{asksFor}
 use Rattle.broker.specs.Ranks.{ranks}
-use Rattle.broker.specs.State.{State, idle}
+use Rattle.broker.specs.State.{State}
 use Rattle.broker.specs.declared.process.Process.{Process}
-use Rattle.broker.specs.declared.process.Request.{Request}
 use Rattle.broker.specs.declared.process.Request.the-variants.{Absent}
-use Rattle.broker.specs.declared.process.Status.{Status}
 use Rattle.broker.specs.declared.process.Vmid.{Vmid}
-
--- a rank's process
-abbrev pub processIn : List Process → Rank → Process
-processIn ps r = getD ps (r .0) idle
-
--- a rank's standing, and nothing else
-abbrev pub setStatus : Rank → Status → List Process → List Process
-setStatus r t ps = set ps (r .0) (record { status = t; request = processIn ps r .request })
-
--- a rank's call, and nothing else
-abbrev pub setRequest : Rank → Request → List Process → List Process
-setRequest r q ps = set ps (r .0) (record { status = processIn ps r .status; request = q })
+use Rattle.checks.specs.Parts.{processIn, setRequest}
 
 -- a's call closes if it goes to b
 abbrev pub withdrawn : Rank → Rank → List Process → List Process

@@ -1,33 +1,18 @@
 -- The checks of a kind, as tests of the parts of the state that they speak of, in the order of their numbers.
 -- Paper 01, "Where each step is checked". Assumes nothing.
-use mathlib.Core.Bool.{Bool, not, _&&_}
+use mathlib.Core.Bool.{Bool, not}
 use mathlib.Core.List.{List, [], _∷_, _++_}
 use Prim.Native.Nat.{ℕ}
 use lib.Dec.{eqb, leb, ltb}
-use Rattle.transit.specs.Message.{sameRank}
 use Rattle.transit.specs.declared.Rank.{Rank}
-use Rattle.broker.specs.Names.{hosts, numbers, isStarted, isMigrating, isEnded, isOpenRequest, asksFor, isClosed, isClosing}
+use Rattle.broker.specs.Names.{hosts, numbers, isStarted, isOpenRequest, asksFor, isClosed, isClosing}
 use Rattle.broker.specs.Ranks.{isRank}
-use Rattle.broker.specs.declared.answer.Refusal.the-variants.{RankRange, HostRange, SameRank, NotStarted, AlreadyStarted, HasEnded, IsMigrating, Connected, RequestOpen, NoRequest, NotConnected, PeerMigrating, UnreadLeft, NumbersSpent}
+use Rattle.broker.specs.declared.answer.Refusal.the-variants.{RankRange, HostRange, AlreadyStarted, Connected, RequestOpen, NoRequest, NotConnected, PeerMigrating, UnreadLeft, NumbersSpent}
 use Rattle.broker.specs.declared.link.Link.{Link}
 use Rattle.broker.specs.declared.process.Process.{Process}
 use Rattle.broker.specs.declared.process.Status.{Status}
-use Rattle.transitions.specs.Verdict.{Test, test}
-
--- 4 and 7, where one rank is named, of the rank and its standing
-abbrev pub oneTests : Rank → Status → List Test
-oneTests r t = test (not (isRank r)) RankRange ∷ test (not (isStarted t)) NotStarted ∷ []
-
--- 4, 6 and 7, where two are
-abbrev pub twoTests : Rank → Rank → Status → Status → List Test
-twoTests a b t u =
-    test (not (isRank a && isRank b)) RankRange ∷
-    test (sameRank a b) SameRank ∷
-    test (not (isStarted t && isStarted u)) NotStarted ∷ []
-
--- 9 and 10, of the first rank's standing
-abbrev pub runningTests : Status → List Test
-runningTests t = test (isEnded t) HasEnded ∷ test (isMigrating t) IsMigrating ∷ []
+use Rattle.checks.specs.Tests.{oneTests, twoTests, runningTests}
+use Rattle.checks.specs.Verdict.{Test, test}
 
 -- start: of the rank's standing, and of how many numbers are drawn on the host
 abbrev pub startTests : Rank → ℕ → Status → ℕ → List Test

@@ -1,25 +1,24 @@
 // Send, take and look. Paper 01, "The step log", kinds 04, 05 and 0C.
 ghost use mathlib.Core.Path.{_≡_};
-ghost use Rattle.transit.specs.Lists.{tally};
-ghost use Rattle.transit.specs.Message.{picks};
-ghost use Rattle.transit.specs.Unread.{view as unreadOf};
 ghost use Rattle.broker.specs.Messages.{placeOver, valueIn, take};
 ghost use Rattle.broker.specs.Ranks.{rank};
 ghost use Rattle.broker.specs.State.{view};
 ghost use Rattle.broker.specs.Step.{settle};
 ghost use Rattle.broker.specs.declared.record.Record.{Record};
-ghost use Rattle.transitions.specs.Messages.{isNothing, sendTests, takeTests, lookTests, deliver, senderIn, oldest};
-ghost use Rattle.transitions.specs.Settled.{settled, accepted};
-ghost use Rattle.transitions.specs.Verdict.{verdictOf, passed, judged};
-use crate::Settled;
-use crate::read::link_between;
-use crate::read::process_of;
-use crate::verdict::Verdict;
+ghost use Rattle.checks.specs.Settled.{settled, accepted};
+ghost use Rattle.checks.specs.Verdict.{verdictOf, passed, judged};
+ghost use Rattle.transitions.specs.Messages.{sendTests, takeTests, lookTests, deliver, senderIn, oldest};
 use broker::answer::Answer;
 use broker::answer::Refusal;
 use broker::link::Connection;
 use broker::process::Status;
 use broker::state::Broker;
+use checks::Settled;
+use checks::read::link_between;
+use checks::read::process_of;
+use checks::unread::is_nothing;
+use checks::unread::unread;
+use checks::verdict::Verdict;
 use transit::Found;
 use transit::Message;
 use transit::Place;
@@ -27,27 +26,8 @@ use transit::Rank;
 use transit::Selection;
 use transit::Transit;
 use transit::append::append;
-use transit::count::count;
 use transit::find::first;
 use transit::remove::remove;
-
-// How many of the selected messages are unread, as a value of an answer.
-pub fn unread(t: Transit, s: Selection) -> u32
-    ensures { λ n. ⌜ n ≡ tally (picks s) (unreadOf t .messages) ⌝ }
-{
-    let n = count(t, s);
-    n as u32
-}
-
-// Whether a search found nothing.
-pub fn is_nothing(found: Found) -> bool
-    ensures { λ b. ⌜ b ≡ isNothing found ⌝ }
-{
-    match found {
-        Found::First(_) => false,
-        Found::Nothing => true,
-    }
-}
 
 fn send_checked(
     a: Rank,

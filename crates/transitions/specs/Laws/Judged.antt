@@ -10,9 +10,9 @@ use Rattle.broker.specs.Names.{isClosed}
 use Rattle.broker.specs.Ranks.{everyRank}
 use Rattle.broker.specs.State.{State, process, status, linkAt, drawnOn, messages}
 use Rattle.broker.specs.declared.record.Record.the-variants.{Start, Call, Route, Part, End}
-use Rattle.transitions.specs.Laws.Verdict.{judged-first}
+use Rattle.checks.specs.Laws.Verdict.{judged-first}
+use Rattle.checks.specs.Verdict.{passed, judged}
 use Rattle.transitions.specs.Tests.{startTests, endTests, callTests, routeTests, partTests}
-use Rattle.transitions.specs.Verdict.{passed, judged}
 
 -- each kind's refusal, by its tests at the parts of a state
 pub record Judged (s : State) : Type 0 where

@@ -7,8 +7,7 @@ use mathlib.Core.Path.{_≡_, refl}
 use Prim.Native.Nat.{ℕ, _<_}
 use native.Mathlib.Nat.{pos-of-ne-zero}
 use native.Mathlib.Omega.{arith}
-use borrow.Author.Tests.{eqb-false, ne-eqb}
-use lib.Dec.{eqb}
+use borrow.Author.Tests.{eqb-false}
 use lib.ListN.{length}
 use Rattle.transit.specs.Lists.{tally, select}
 use Rattle.transit.specs.Message.{to, between}
@@ -25,14 +24,10 @@ use Rattle.broker.specs.State.{State, status, connection, messages}
 use Rattle.broker.specs.Step.{nameFitsRecord}
 use Rattle.broker.specs.declared.answer.Refusal.{Refusal}
 use Rattle.broker.specs.declared.record.Record.the-variants.{Send, Take, Look}
-use Rattle.transitions.specs.Laws.Verdict.{judged-first}
-use Rattle.transitions.specs.Messages.{isNothing, sendTests, takeTests, lookTests, senderIn, oldest}
-use Rattle.transitions.specs.Verdict.{passed, judged}
-
--- a list has a head exactly where it is not empty
-pub no-head : (l : List Message) → eqb (length l) 0 ≡ isNothing (head l)
-no-head [] = refl
-no-head (m ∷ l) = ne-eqb (length (m ∷ l)) 0 (λ e. omega arith)
+use Rattle.checks.specs.Laws.Unread.{no-head}
+use Rattle.checks.specs.Laws.Verdict.{judged-first}
+use Rattle.checks.specs.Verdict.{passed, judged}
+use Rattle.transitions.specs.Messages.{sendTests, takeTests, lookTests, senderIn, oldest}
 
 -- each kind's refusal, by its tests at the parts of a state
 pub record Judged (s : State) : Type 0 where

@@ -15,10 +15,10 @@ use Rattle.broker.specs.Names.{isClear}
 use Rattle.broker.specs.Ranks.{allBelow, countBelow, everyRank, countRanks, rank}
 use Rattle.broker.specs.State.{State, process, status, connection, backlog, drawnOn}
 use Rattle.broker.specs.declared.record.Record.the-variants.{Move, Heed, Drain, Land}
-use Rattle.transitions.specs.Laws.Messages.{no-head}
-use Rattle.transitions.specs.Laws.Verdict.{judged-first}
+use Rattle.checks.specs.Laws.Unread.{no-head}
+use Rattle.checks.specs.Laws.Verdict.{judged-first}
+use Rattle.checks.specs.Verdict.{passed, judged}
 use Rattle.transitions.specs.Migrate.{moveTests, heedTests, drainTests, landTests, awaitsOf}
-use Rattle.transitions.specs.Verdict.{passed, judged}
 
 module _ (f : ℕ → Bool) where
   -- one number more counts for one where it passes the test

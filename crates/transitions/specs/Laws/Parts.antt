@@ -11,7 +11,8 @@ use Rattle.broker.specs.Names.{unknown, asksFor}
 use Rattle.broker.specs.State.{State, cell, request, withRequest}
 use Rattle.broker.specs.declared.process.Request.the-variants.{Absent}
 use Rattle.broker.specs.declared.process.Vmid.{Vmid}
-use Rattle.transitions.specs.Parts.{tableOf, setRequest, withdrawn, withProcesses}
+use Rattle.checks.specs.Parts.{setRequest}
+use Rattle.transitions.specs.Parts.{tableOf, withdrawn, withProcesses}
 
 -- a call that closes is a change of the processes alone
 pub withdraw-processes : (a b : Rank) (s : State) → withdraw a b s ≡ withProcesses (withdrawn a b (s .processes)) s

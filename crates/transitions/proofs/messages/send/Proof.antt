@@ -9,10 +9,10 @@ use Rattle.broker.specs.State.{State, view}
 use Rattle.broker.specs.Step.{apply}
 use Rattle.broker.specs.declared.record.Record.{Record}
 use Rattle.broker.specs.declared.record.Record.the-variants.{Send}
+use Rattle.checks.specs.Laws.Settled.{refused-by, accepted-by}
+use Rattle.checks.specs.Verdict.{verdictOf}
 use Rattle.transitions.specs.Laws.Messages.{by-tests}
-use Rattle.transitions.specs.Laws.Settled.{refused-by, accepted-by}
 use Rattle.transitions.specs.Messages.{deliver}
-use Rattle.transitions.specs.Verdict.{verdictOf}
 use Rattle.transitions.proofs.messages.send.Statement.{statement}
 use Rattle.transitions.proofs.messages.send.Tie as tie
 

@@ -8,9 +8,9 @@ use Rattle.broker.specs.State.{State, view}
 use Rattle.broker.specs.Step.{apply}
 use Rattle.broker.specs.declared.record.Record.{Record}
 use Rattle.broker.specs.declared.record.Record.the-variants.{Take}
+use Rattle.checks.specs.Laws.Settled.{refused-by, accepted-by}
+use Rattle.checks.specs.Verdict.{verdictOf}
 use Rattle.transitions.specs.Laws.Messages.{by-tests}
-use Rattle.transitions.specs.Laws.Settled.{refused-by, accepted-by}
-use Rattle.transitions.specs.Verdict.{verdictOf}
 use Rattle.transitions.proofs.messages.take.Statement.{statement}
 use Rattle.transitions.proofs.messages.take.Tie as tie
 

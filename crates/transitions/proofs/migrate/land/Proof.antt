@@ -9,9 +9,9 @@ use Rattle.broker.specs.State.{State, view}
 use Rattle.broker.specs.Step.{apply}
 use Rattle.broker.specs.declared.record.Record.{Record}
 use Rattle.broker.specs.declared.record.Record.the-variants.{Land}
+use Rattle.checks.specs.Laws.Settled.{refused-by, accepted-by, passes-by}
+use Rattle.checks.specs.Verdict.{verdictOf}
 use Rattle.transitions.specs.Laws.Migrate.{by-tests}
-use Rattle.transitions.specs.Laws.Settled.{refused-by, accepted-by, passes-by}
-use Rattle.transitions.specs.Verdict.{verdictOf}
 use Rattle.transitions.proofs.migrate.land.Statement.{statement}
 use Rattle.transitions.proofs.migrate.land.Tie as tie
 
