@@ -14,7 +14,6 @@ use broker::state::Broker;
 use checks::Settled;
 use soundness::is_sound;
 use transitions::connect;
-use transitions::life;
 use transitions::messages;
 use transitions::migrate;
 

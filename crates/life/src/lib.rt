@@ -1,4 +1,5 @@
-// Start and end. Paper 01, "The step log", kinds 01 and 0B.
+// Start and end: the checks of each in the paper's order, and, where none applies, its change of the state.
+// Paper 01, "The step log", kinds 01 and 0B.
 ghost use mathlib.Core.Path.{_≡_};
 ghost use lib.Dec.{eqb, leb};
 ghost use Prim.Native.Nat.{_<_};
@@ -10,7 +11,7 @@ ghost use Rattle.broker.specs.Step.{settle};
 ghost use Rattle.broker.specs.declared.record.Record.{Record};
 ghost use Rattle.checks.specs.Settled.{settled, accepted};
 ghost use Rattle.checks.specs.Verdict.{verdictOf, passed, judged};
-ghost use Rattle.transitions.specs.Tests.{startTests, endTests};
+ghost use Rattle.life.specs.Tests.{startTests, endTests};
 use broker::answer::Answer;
 use broker::answer::Refusal;
 use broker::link::Link;

@@ -1,8 +1,8 @@
--- `transitions::life::run` meets its contract: one more number is drawn, and everybody is told. Assumes nothing.
+-- `life::run` meets its contract: one more number is drawn, and everybody is told. Assumes nothing.
 use borrow.Author.Needs.{needs}
 use Rattle.broker.specs.Life.{start}
-use Rattle.transitions.proofs.life.run.Statement.{statement}
-use Rattle.transitions.proofs.life.run.Tie as tie
+use Rattle.life.proofs.run.Statement.{statement}
+use Rattle.life.proofs.run.Tie as tie
 
 drawn-on-requires : tie.Need-drawn-on-requires
 drawn-on-requires c κs = search needs

@@ -1,4 +1,4 @@
--- `transitions::life::alone` meets its contract. The loop's invariant: whether the ranks so far have no line. Assumes nothing.
+-- `life::alone` meets its contract. The loop's invariant: whether the ranks so far have no line. Assumes nothing.
 use mathlib.Core.Path.{_≡_}
 use Prim.Native.Nat.{_≤_, _-_}
 use native.Mathlib.Numerals.{add-one}
@@ -7,8 +7,8 @@ use borrow.Author.Needs.{needs}
 use Rattle.broker.specs.Names.{isClosed}
 use Rattle.broker.specs.Ranks.{rank, allBelow, everyRank}
 use Rattle.broker.specs.State.{linkAt}
-use Rattle.transitions.proofs.life.alone.Statement.{statement}
-use Rattle.transitions.proofs.life.alone.Tie as tie
+use Rattle.life.proofs.alone.Statement.{statement}
+use Rattle.life.proofs.alone.Tie as tie
 
 abbrev Inv-loop : tie.InvT-loop
 Inv-loop links r all₀ i₀ all i = (i ≤ 16) × (all ≡ allBelow i (λ p. isClosed (linkAt links r (rank p) .connection)))

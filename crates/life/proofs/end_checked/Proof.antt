@@ -1,7 +1,7 @@
--- `transitions::life::end_checked` meets its contract: each check is its test. Assumes nothing.
+-- `life::end_checked` meets its contract: each check is its test. Assumes nothing.
 use borrow.Author.Needs.{needs}
-use Rattle.transitions.proofs.life.end_checked.Statement.{statement}
-use Rattle.transitions.proofs.life.end_checked.Tie as tie
+use Rattle.life.proofs.end_checked.Statement.{statement}
+use Rattle.life.proofs.end_checked.Tie as tie
 
 on-one-requires : tie.Need-on-one-requires
 on-one-requires c κs = search needs

@@ -1,8 +1,8 @@
--- `transitions::life::stop` meets its contract: the standing is set to ended at the current end. Assumes nothing.
+-- `life::stop` meets its contract: the standing is set to ended at the current end. Assumes nothing.
 use borrow.Author.Needs.{needs}
 use Rattle.broker.specs.Life.{end}
-use Rattle.transitions.proofs.life.stop.Statement.{statement}
-use Rattle.transitions.proofs.life.stop.Tie as tie
+use Rattle.life.proofs.stop.Statement.{statement}
+use Rattle.life.proofs.stop.Tie as tie
 
 process-of-requires : tie.Need-process-of-requires
 process-of-requires c κs = search needs

@@ -1,4 +1,4 @@
--- `transitions::life::announce` meets its contract. The loop's invariant: the ranks so far are told. Assumes nothing.
+-- `life::announce` meets its contract. The loop's invariant: the ranks so far are told. Assumes nothing.
 use mathlib.Core.Path.{_≡_}
 use Prim.Native.Nat.{_≤_, _-_}
 use native.Mathlib.Numerals.{add-one}
@@ -8,8 +8,8 @@ use lib.ListN.{set}
 use Rattle.broker.specs.Life.{announced}
 use Rattle.broker.specs.Ranks.{rank, eachBelow, eachRank}
 use Rattle.broker.specs.State.{cell}
-use Rattle.transitions.proofs.life.announce.Statement.{statement}
-use Rattle.transitions.proofs.life.announce.Tie as tie
+use Rattle.life.proofs.announce.Statement.{statement}
+use Rattle.life.proofs.announce.Tie as tie
 
 abbrev Inv-loop : tie.InvT-loop
 Inv-loop r v next₀ i₀ next i = (i ≤ 16) × (next ≡ eachBelow i (λ p l. set l (cell (rank p) r) v) next₀)

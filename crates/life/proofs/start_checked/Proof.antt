@@ -1,7 +1,7 @@
--- `transitions::life::start_checked` meets its contract: each check is its test. Assumes nothing.
+-- `life::start_checked` meets its contract: each check is its test. Assumes nothing.
 use borrow.Author.Needs.{needs}
-use Rattle.transitions.proofs.life.start_checked.Statement.{statement}
-use Rattle.transitions.proofs.life.start_checked.Tie as tie
+use Rattle.life.proofs.start_checked.Statement.{statement}
+use Rattle.life.proofs.start_checked.Tie as tie
 
 passed-requires : tie.Need-passed-requires
 passed-requires c κs = search needs

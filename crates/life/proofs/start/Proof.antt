@@ -1,4 +1,4 @@
--- `transitions::life::start` meets its contract: the checks give the refusal of the definition, and where none applies the rank runs.
+-- `life::start` meets its contract: the checks give the refusal of the definition, and where none applies the rank runs.
 -- Assumes nothing.
 use mathlib.Core.Path.{_≡_, _∙_}
 use borrow.Author.Needs.{needs}
@@ -11,9 +11,9 @@ use Rattle.broker.specs.declared.record.Record.the-variants.{Start}
 use Rattle.broker.specs.declared.record.Record.{Record}
 use Rattle.checks.specs.Laws.Settled.{refused-by, accepted-by, passes-by}
 use Rattle.checks.specs.Verdict.{verdictOf}
-use Rattle.transitions.specs.Laws.Judged.{by-tests}
-use Rattle.transitions.proofs.life.start.Statement.{statement}
-use Rattle.transitions.proofs.life.start.Tie as tie
+use Rattle.life.specs.Laws.Judged.{by-tests}
+use Rattle.life.proofs.start.Statement.{statement}
+use Rattle.life.proofs.start.Tie as tie
 
 -- the state lent, and the record
 abbrev lent : tie.After-start-checked → State
