@@ -1,5 +1,3 @@
 -- Laws of the definitions that the contracts cite.
-pub mod Judged
 pub mod Messages
 pub mod Migrate
-pub mod Parts

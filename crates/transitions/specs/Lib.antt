@@ -2,5 +2,3 @@
 pub mod Laws
 pub mod Messages
 pub mod Migrate
-pub mod Parts
-pub mod Tests
