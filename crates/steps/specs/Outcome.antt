@@ -8,7 +8,7 @@ use Rattle.broker.specs.declared.record.Decoded.{Decoded}
 use Rattle.broker.specs.declared.record.Decoded.the-variants.{Whole, Unknown, Cut}
 use Rattle.broker.specs.declared.record.Record.{Record}
 use Rattle.broker.specs.declared.record.Record.the-variants.{Start, Call, Route, Send, Take, Move, Heed, Drain, Land, Part, End, Look}
-use Rattle.transitions.specs.Messages.{oldest}
+use Rattle.messages.specs.Look.{oldest}
 use Rattle.steps.specs.declared.Outcome.{Outcome}
 
 abbrev pub outcome : Outcome → step.Outcome

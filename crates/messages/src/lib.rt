@@ -1,4 +1,5 @@
-// Send, take and look. Paper 01, "The step log", kinds 04, 05 and 0C.
+// Send, take and look: the checks of each in the paper's order, and, where none applies, its change of the state.
+// Paper 01, "The step log", kinds 04, 05 and 0C.
 ghost use mathlib.Core.Path.{_≡_};
 ghost use Rattle.broker.specs.Messages.{placeOver, valueIn, take};
 ghost use Rattle.broker.specs.Ranks.{rank};
@@ -7,7 +8,9 @@ ghost use Rattle.broker.specs.Step.{settle};
 ghost use Rattle.broker.specs.declared.record.Record.{Record};
 ghost use Rattle.checks.specs.Settled.{settled, accepted};
 ghost use Rattle.checks.specs.Verdict.{verdictOf, passed, judged};
-ghost use Rattle.transitions.specs.Messages.{sendTests, takeTests, lookTests, deliver, senderIn, oldest};
+ghost use Rattle.messages.specs.Deliver.{deliver};
+ghost use Rattle.messages.specs.Look.{senderIn, oldest};
+ghost use Rattle.messages.specs.Tests.{sendTests, takeTests, lookTests};
 use broker::answer::Answer;
 use broker::answer::Refusal;
 use broker::link::Connection;

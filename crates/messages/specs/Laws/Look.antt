@@ -1,48 +1,28 @@
--- Send, take and look: the first row of the table of checks that applies is the first of the kind's tests that fails; and the rank
--- that a look names. Assumes nothing.
-use mathlib.Core.Bool.{Bool, true, false, cond, and-true, and-false, or-false}
+-- The rank that a look names has something unread. Assumes nothing.
+use mathlib.Core.Bool.{Bool, true, false, cond, and-false}
 use mathlib.Core.List.{List, [], _∷_}
 use mathlib.Core.Option.{Option, none, some}
 use mathlib.Core.Path.{_≡_, refl}
-use Prim.Native.Nat.{ℕ, _<_}
+use Prim.Native.Nat.{_<_}
 use native.Mathlib.Nat.{pos-of-ne-zero}
 use native.Mathlib.Omega.{arith}
 use borrow.Author.Tests.{eqb-false}
 use lib.ListN.{length}
 use Rattle.transit.specs.Lists.{tally, select}
 use Rattle.transit.specs.Message.{to, between}
-use Rattle.transit.specs.Unread.{head, firstSent}
+use Rattle.transit.specs.Unread.{head}
 use Rattle.transit.specs.declared.Message.{Message}
 use Rattle.transit.specs.declared.Rank.{Rank}
-use Rattle.transit.specs.declared.Selection.the-variants.{To, Between}
-use Rattle.broker.specs.Checks.{checks, refusal, rankRange, hostRange, rankTwice, notStarted, alreadyStarted, hasEnded, firstMigrating, notMigrating, connected, requestOpen, noRequest, notConnected, peerMigrating, noNotice, sameHost, backlogLeft, noBacklog, nothingToDrain, nothingUnread, unreadLeft, full, numbersSpent}
+use Rattle.broker.specs.Checks.{refusal}
 use Rattle.broker.specs.Laws.Accepted.{look-fits}
 use Rattle.broker.specs.Laws.Checks.{passes}
 use Rattle.broker.specs.Laws.State.{sameRank-self}
 use Rattle.broker.specs.Messages.{unreadBetween}
-use Rattle.broker.specs.State.{State, status, connection, messages}
+use Rattle.broker.specs.State.{State, messages}
 use Rattle.broker.specs.Step.{nameFitsRecord}
 use Rattle.broker.specs.declared.answer.Refusal.{Refusal}
-use Rattle.broker.specs.declared.record.Record.the-variants.{Send, Take, Look}
-use Rattle.checks.specs.Laws.Unread.{no-head}
-use Rattle.checks.specs.Laws.Verdict.{judged-first}
-use Rattle.checks.specs.Verdict.{passed, judged}
-use Rattle.transitions.specs.Messages.{sendTests, takeTests, lookTests, senderIn, oldest}
-
--- each kind's refusal, by its tests at the parts of a state
-pub record Judged (s : State) : Type 0 where
-  pub send : (a b : Rank) (v : ℕ) → refusal s (Send a b v) ≡ judged passed (sendTests a b (status s a) (status s b) (connection s a b) (s .unread .count))
-  pub take : (b a : Rank) → refusal s (Take b a) ≡ judged passed (takeTests b a (status s b) (status s a) (firstSent (Between a b) (s .unread)))
-  pub look : (r : Rank) → refusal s (Look r) ≡ judged passed (lookTests r (status s r) (firstSent (To r) (s .unread)))
-
-pub by-tests : (s : State) → Judged s
-unfolding refusal checks rankRange hostRange rankTwice notStarted alreadyStarted hasEnded firstMigrating notMigrating connected requestOpen noRequest notConnected peerMigrating noNotice sameHost backlogLeft noBacklog nothingToDrain nothingUnread unreadLeft full numbersSpent
-by-tests s =
-    record {
-      send = λ a b v. rw judged-first (simp (and-true, or-false));
-      take = λ b a. rw (judged-first, ← no-head) (simp (and-true, or-false));
-      look = λ r. rw (judged-first, ← no-head) (simp and-true);
-    }
+use Rattle.broker.specs.declared.record.Record.the-variants.{Look}
+use Rattle.messages.specs.Look.{senderIn, oldest}
 
 -- where a message is to r, one is from the sender of the first of them
 sender-counts : (r : Rank) (l : List Message) → 0 < tally (to r) l → 0 < tally (between (senderIn (head (select (to r) l))) r) l

@@ -1,4 +1,4 @@
--- `transitions::messages::receive` meets its contract: what `remove` finds and leaves is what the definition says.
+-- `messages::receive` meets its contract: what `remove` finds and leaves is what the definition says.
 -- Assumes nothing.
 use mathlib.Core.Path.{ap, _∙_}
 use borrow.Author.Needs.{needs}
@@ -6,8 +6,8 @@ use Rattle.transit.specs.Lists.{tally}
 use Rattle.transit.specs.Message.{between}
 use Rattle.transit.specs.Unread.{Unread, AfterRemove}
 use Rattle.broker.specs.Messages.{take, valueIn}
-use Rattle.transitions.proofs.messages.receive.Statement.{statement}
-use Rattle.transitions.proofs.messages.receive.Tie as tie
+use Rattle.messages.proofs.receive.Statement.{statement}
+use Rattle.messages.proofs.receive.Tie as tie
 
 remove-requires : tie.Need-remove-requires
 remove-requires c κs = search needs

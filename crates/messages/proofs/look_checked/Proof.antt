@@ -1,7 +1,7 @@
--- `transitions::messages::look_checked` meets its contract: each check is its test. Assumes nothing.
+-- `messages::look_checked` meets its contract: each check is its test. Assumes nothing.
 use borrow.Author.Needs.{needs}
-use Rattle.transitions.proofs.messages.look_checked.Statement.{statement}
-use Rattle.transitions.proofs.messages.look_checked.Tie as tie
+use Rattle.messages.proofs.look_checked.Statement.{statement}
+use Rattle.messages.proofs.look_checked.Tie as tie
 
 on-one-requires : tie.Need-on-one-requires
 on-one-requires c κs = search needs

@@ -1,4 +1,4 @@
--- `transitions::messages::take` meets its contract: the checks give the refusal of the definition, and where none applies the message leaves.
+-- `messages::take` meets its contract: the checks give the refusal of the definition, and where none applies the message leaves.
 -- Assumes nothing.
 use mathlib.Core.Path.{_≡_, _∙_}
 use borrow.Author.Needs.{needs}
@@ -10,9 +10,9 @@ use Rattle.broker.specs.declared.record.Record.{Record}
 use Rattle.broker.specs.declared.record.Record.the-variants.{Take}
 use Rattle.checks.specs.Laws.Settled.{refused-by, accepted-by}
 use Rattle.checks.specs.Verdict.{verdictOf}
-use Rattle.transitions.specs.Laws.Messages.{by-tests}
-use Rattle.transitions.proofs.messages.take.Statement.{statement}
-use Rattle.transitions.proofs.messages.take.Tie as tie
+use Rattle.messages.specs.Laws.Judged.{by-tests}
+use Rattle.messages.proofs.take.Statement.{statement}
+use Rattle.messages.proofs.take.Tie as tie
 
 -- the state lent, and the record
 abbrev lent : tie.After-take-checked → State
