@@ -13,7 +13,6 @@ use broker::record::Record;
 use broker::state::Broker;
 use checks::Settled;
 use soundness::is_sound;
-use transitions::migrate;
 
 pub mod decode;
 
