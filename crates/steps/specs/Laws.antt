@@ -16,7 +16,7 @@ use Rattle.broker.specs.declared.record.Decoded.{Decoded}
 use Rattle.broker.specs.declared.record.Decoded.the-variants.{Whole, Unknown, Cut}
 use Rattle.broker.specs.declared.record.Record.{Record}
 use Rattle.broker.specs.declared.record.Record.the-variants.{Start, Call, Route, Send, Take, Move, Heed, Drain, Land, Part, End, Look}
-use Rattle.transitions.specs.Laws.Messages.{accepted-look-has-unread}
+use Rattle.messages.specs.Laws.Look.{accepted-look-has-unread}
 use Rattle.steps.specs.Outcome.{nameFor, nameAt}
 
 module _ (s : State) (log : List ℕ) (at : ℕ) where

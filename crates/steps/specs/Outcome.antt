@@ -8,8 +8,8 @@ use Rattle.broker.specs.declared.record.Decoded.{Decoded}
 use Rattle.broker.specs.declared.record.Decoded.the-variants.{Whole, Unknown, Cut}
 use Rattle.broker.specs.declared.record.Record.{Record}
 use Rattle.broker.specs.declared.record.Record.the-variants.{Start, Call, Route, Send, Take, Move, Heed, Drain, Land, Part, End, Look}
+use Rattle.messages.specs.Look.{oldest}
 use Rattle.steps.specs.declared.Outcome.{Outcome}
-use Rattle.transitions.specs.Messages.{oldest}
 
 abbrev pub outcome : Outcome → step.Outcome
 outcome o = record { answer = o .answer; next = o .next; state = view (o .broker) }

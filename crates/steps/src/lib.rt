@@ -3,20 +3,16 @@ ghost use mathlib.Core.Path.{_≡_};
 ghost use Rattle.broker.specs.Record.{decode as decodeAt};
 ghost use Rattle.broker.specs.State.{view};
 ghost use Rattle.broker.specs.Step.{Stepped, settle as settleRecord, stepSound};
+ghost use Rattle.checks.specs.Settled.{settled};
 ghost use Rattle.steps.specs.Outcome.{outcome, nameFor, nameAt};
-ghost use Rattle.transitions.specs.Settled.{settled};
 use crate::decode::decode;
 use broker::answer::Answer;
 use broker::answer::Refusal;
 use broker::record::Decoded;
 use broker::record::Record;
 use broker::state::Broker;
+use checks::Settled;
 use soundness::is_sound;
-use transitions::Settled;
-use transitions::connect;
-use transitions::life;
-use transitions::messages;
-use transitions::migrate;
 
 pub mod decode;
 

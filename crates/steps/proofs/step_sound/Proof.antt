@@ -2,7 +2,7 @@
 use mathlib.Core.Path.{sym, _∙_}
 use borrow.Author.Needs.{needs}
 use Rattle.broker.specs.State.{view}
-use Rattle.transitions.specs.Settled.{settled}
+use Rattle.checks.specs.Settled.{settled}
 use Rattle.steps.specs.Laws.{on-whole, on-unknown, on-cut}
 use Rattle.steps.proofs.step_sound.Statement.{statement}
 use Rattle.steps.proofs.step_sound.Tie as tie

@@ -1,0 +1,4 @@
+-- Laws of the definitions that the contracts cite.
+pub mod Settled
+pub mod Unread
+pub mod Verdict

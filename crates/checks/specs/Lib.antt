@@ -1,0 +1,7 @@
+-- What the contracts of this crate cite, and laws of it.
+pub mod Laws
+pub mod Parts
+pub mod Settled
+pub mod Tests
+pub mod Unread
+pub mod Verdict

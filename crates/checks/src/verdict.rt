@@ -1,0 +1,68 @@
+// Checks in turn: the first that fails decides. And the checks on names and standing, which most kinds share.
+ghost use mathlib.Core.Path.{_≡_};
+ghost use Rattle.checks.specs.Tests.{oneTests, twoTests, runningTests};
+ghost use Rattle.checks.specs.Verdict.{verdictOf, orElse, passed, judged};
+use crate::read::both;
+use crate::read::is_rank;
+use crate::read::same_rank;
+use broker::answer::Refusal;
+use broker::process::Status;
+use transit::Rank;
+
+pub enum Verdict {
+    Passed,
+    Refused(Refusal),
+}
+
+impl Verdict {
+    pub fn passed() -> Self
+        ensures { λ r. ⌜ verdictOf r ≡ passed ⌝ }
+    {
+        Verdict::Passed
+    }
+
+    // The verdict so far, or, where all passed, this check's.
+    pub fn unless(self, fails: bool, refusal: Refusal) -> Verdict
+        ensures { λ r. ⌜ verdictOf r ≡ orElse (verdictOf self) fails refusal ⌝ }
+    {
+        match self {
+            Verdict::Refused(earlier) => Verdict::Refused(earlier),
+            Verdict::Passed => {
+                if fails {
+                    Verdict::Refused(refusal)
+                } else {
+                    Verdict::Passed
+                }
+            }
+        }
+    }
+
+    // The rank named is in range and started.
+    pub fn on_one(r: Rank, standing: Status) -> Verdict
+        ensures { λ v. ⌜ verdictOf v ≡ judged passed (oneTests r standing) ⌝ }
+    {
+        Verdict::passed()
+            .unless(!is_rank(r), Refusal::RankRange)
+            .unless(!standing.is_started(), Refusal::NotStarted)
+    }
+
+    // The two ranks named are in range, not one and the same, and started.
+    pub fn on_two(a: Rank, b: Rank, first: Status, second: Status) -> Verdict
+        ensures { λ v. ⌜ verdictOf v ≡ judged passed (twoTests a b first second) ⌝ }
+    {
+        let in_range = both(is_rank(a), is_rank(b));
+        let started = both(first.is_started(), second.is_started());
+        Verdict::passed()
+            .unless(!in_range, Refusal::RankRange)
+            .unless(same_rank(a, b), Refusal::SameRank)
+            .unless(!started, Refusal::NotStarted)
+    }
+
+    // And the first rank, which is started, runs.
+    pub fn running(self, standing: Status) -> Verdict
+        ensures { λ v. ⌜ verdictOf v ≡ judged (verdictOf self) (runningTests standing) ⌝ }
+    {
+        self.unless(standing.is_ended(), Refusal::HasEnded)
+            .unless(standing.is_migrating(), Refusal::IsMigrating)
+    }
+}

@@ -1,0 +1,16 @@
+-- `connect::connect_both` meets its contract: one line after the other. Assumes nothing.
+use borrow.Author.Needs.{needs}
+use Rattle.connect.proofs.connect_both.Statement.{statement}
+use Rattle.connect.proofs.connect_both.Tie as tie
+
+connect-requires : tie.Need-connect-requires
+connect-requires c κs = search needs
+
+connect-requires-2 : tie.Need-connect-requires-2
+connect-requires-2 c κs = search needs
+
+returns : tie.Need-returns
+returns c = rw (c .connect2 .ensures, c .before .connect .ensures)
+
+pub connect-both-spec : {M : Type 1} → statement M
+connect-both-spec = tie.close (tie.spec connect-requires connect-requires-2 returns)

@@ -1,0 +1,26 @@
+-- Call, route and part: the first row of the table of checks that applies is the first of the kind's tests that fails.
+-- Assumes nothing.
+use mathlib.Core.Bool.{and-true, or-false}
+use mathlib.Core.Path.{_≡_}
+use Rattle.transit.specs.declared.Rank.{Rank}
+use Rattle.broker.specs.Checks.{checks, refusal, rankRange, hostRange, rankTwice, notStarted, alreadyStarted, hasEnded, firstMigrating, notMigrating, connected, requestOpen, noRequest, notConnected, peerMigrating, noNotice, sameHost, backlogLeft, noBacklog, nothingToDrain, nothingUnread, unreadLeft, full, numbersSpent}
+use Rattle.broker.specs.State.{State, process, linkAt}
+use Rattle.broker.specs.declared.record.Record.the-variants.{Call, Route, Part}
+use Rattle.checks.specs.Laws.Verdict.{judged-first}
+use Rattle.checks.specs.Verdict.{passed, judged}
+use Rattle.connect.specs.Tests.{callTests, routeTests, partTests}
+
+-- each kind's refusal, by its tests at the parts of a state
+pub record Judged (s : State) : Type 0 where
+  pub call : (a b : Rank) → refusal s (Call a b) ≡ judged passed (callTests a b (process s a) (process s b) (linkAt (s .links) a b))
+  pub route : (a b : Rank) → refusal s (Route a b) ≡ judged passed (routeTests a b (process s a) (process s b))
+  pub part : (a b : Rank) → refusal s (Part a b) ≡ judged passed (partTests a b (process s a) (process s b) (linkAt (s .links) a b))
+
+pub by-tests : (s : State) → Judged s
+unfolding refusal checks rankRange hostRange rankTwice notStarted alreadyStarted hasEnded firstMigrating notMigrating connected requestOpen noRequest notConnected peerMigrating noNotice sameHost backlogLeft noBacklog nothingToDrain nothingUnread unreadLeft full numbersSpent
+by-tests s =
+    record {
+      call = λ a b. rw judged-first (simp (and-true, or-false));
+      route = λ a b. rw judged-first (simp (and-true, or-false));
+      part = λ a b. rw judged-first (simp (and-true, or-false));
+    }

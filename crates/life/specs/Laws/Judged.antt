@@ -1,0 +1,28 @@
+-- Start and end: the first row of the table of checks that applies is the first of the kind's tests that fails. Assumes nothing.
+use mathlib.Core.Bool.{and-true, or-false}
+use mathlib.Core.Path.{_≡_}
+use Prim.Native.Nat.{ℕ}
+use Rattle.transit.specs.Lists.{tally}
+use Rattle.transit.specs.Message.{to}
+use Rattle.transit.specs.declared.Rank.{Rank}
+use Rattle.broker.specs.Checks.{checks, refusal, rankRange, hostRange, rankTwice, notStarted, alreadyStarted, hasEnded, firstMigrating, notMigrating, connected, requestOpen, noRequest, notConnected, peerMigrating, noNotice, sameHost, backlogLeft, noBacklog, nothingToDrain, nothingUnread, unreadLeft, full, numbersSpent}
+use Rattle.broker.specs.Names.{isClosed}
+use Rattle.broker.specs.Ranks.{everyRank}
+use Rattle.broker.specs.State.{State, process, status, linkAt, drawnOn, messages}
+use Rattle.broker.specs.declared.record.Record.the-variants.{Start, End}
+use Rattle.checks.specs.Laws.Verdict.{judged-first}
+use Rattle.checks.specs.Verdict.{passed, judged}
+use Rattle.life.specs.Tests.{startTests, endTests}
+
+-- each kind's refusal, by its tests at the parts of a state
+pub record Judged (s : State) : Type 0 where
+  pub start : (r : Rank) (h : ℕ) → refusal s (Start r h) ≡ judged passed (startTests r h (status s r) (drawnOn s h))
+  pub end : (r : Rank) → refusal s (End r) ≡ judged passed (endTests r (process s r) (everyRank (λ p. isClosed (linkAt (s .links) r p .connection))) (tally (to r) (messages s)))
+
+pub by-tests : (s : State) → Judged s
+unfolding refusal checks rankRange hostRange rankTwice notStarted alreadyStarted hasEnded firstMigrating notMigrating connected requestOpen noRequest notConnected peerMigrating noNotice sameHost backlogLeft noBacklog nothingToDrain nothingUnread unreadLeft full numbersSpent
+by-tests s =
+    record {
+      start = λ r h. rw judged-first (simp (and-true, or-false));
+      end = λ r. rw judged-first (simp and-true);
+    }

@@ -1,0 +1,27 @@
+-- `messages::deliver` meets its contract: what `append` leaves is what the definition says, and the count is of that.
+-- Assumes nothing.
+use mathlib.Core.Path.{ap, _∙_}
+use borrow.Author.Needs.{needs}
+use Rattle.transit.specs.Lists.{tally}
+use Rattle.transit.specs.Message.{between}
+use Rattle.transit.specs.Unread.{Unread, AfterAppend}
+use Rattle.messages.specs.Deliver.{deliver}
+use Rattle.messages.proofs.deliver.Statement.{statement}
+use Rattle.messages.proofs.deliver.Tie as tie
+
+append-requires : tie.Need-append-requires
+append-requires c κs = search needs
+
+unread-requires : tie.Need-unread-requires
+unread-requires c κs = search needs
+
+returns : tie.Need-returns
+unfolding deliver
+returns c =
+    let after = ap (λ (x : AfterAppend). x .unread) (c .before .before .append .ensures) in
+    let m = c .before .before .before .before .before .before .args .m in
+    let left = c .unread .ensures ∙ ap (λ (u : Unread). tally (between (m .sender) (m .receiver)) (u .messages)) after in
+    rw (left, after)
+
+pub deliver-spec : {M : Type 1} → statement M
+deliver-spec = tie.close (tie.spec append-requires unread-requires returns)

@@ -1,0 +1,28 @@
+-- Send, take and look: the checks of each, as tests of the parts of the state that they speak of, in the order of their numbers.
+-- Paper 01, "Where each step is checked". Assumes nothing.
+use mathlib.Core.List.{List, [], _∷_, _++_}
+use Prim.Native.Nat.{ℕ}
+use lib.Dec.{leb}
+use Rattle.transit.specs.Unread.{limit}
+use Rattle.transit.specs.declared.Found.{Found}
+use Rattle.transit.specs.declared.Rank.{Rank}
+use Rattle.broker.specs.Names.{isClosed}
+use Rattle.broker.specs.declared.answer.Refusal.the-variants.{NotConnected, NothingUnread, Full}
+use Rattle.broker.specs.declared.link.Connection.{Connection}
+use Rattle.broker.specs.declared.process.Status.{Status}
+use Rattle.checks.specs.Tests.{oneTests, twoTests, runningTests}
+use Rattle.checks.specs.Unread.{isNothing}
+use Rattle.checks.specs.Verdict.{Test, test}
+
+-- send: of the two ranks' standings, of the first one's line to the second, and of how many messages are unread
+abbrev pub sendTests : Rank → Rank → Status → Status → Connection → ℕ → List Test
+sendTests a b t u l n =
+    twoTests a b t u ++ runningTests t ++ (test (isClosed l) NotConnected ∷ test (leb limit n) Full ∷ [])
+
+-- take: of the two ranks' standings, and of the first message that the second one sent to the first
+abbrev pub takeTests : Rank → Rank → Status → Status → Found → List Test
+takeTests b a t u f = twoTests b a t u ++ runningTests t ++ (test (isNothing f) NothingUnread ∷ [])
+
+-- look: of the rank's standing, and of the first message to it
+abbrev pub lookTests : Rank → Status → Found → List Test
+lookTests r t f = oneTests r t ++ runningTests t ++ (test (isNothing f) NothingUnread ∷ [])

@@ -1,0 +1,16 @@
+-- `migrate::leaving::awaiting` meets its contract. Assumes nothing.
+use borrow.Author.Needs.{needs}
+use Rattle.migrate.proofs.leaving.awaiting.Statement.{statement}
+use Rattle.migrate.proofs.leaving.awaiting.Tie as tie
+
+link-between-requires : tie.Need-link-between-requires
+link-between-requires c κs = search needs
+
+set-link-requires : tie.Need-set-link-requires
+set-link-requires c κs = search needs
+
+returns : tie.Need-returns
+returns c = cc
+
+pub awaiting-spec : {M : Type 1} → statement M
+awaiting-spec = tie.close (tie.spec link-between-requires set-link-requires returns)

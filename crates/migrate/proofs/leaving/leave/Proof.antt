@@ -1,0 +1,57 @@
+-- `migrate::leaving::leave` meets its contract: each arm is the case of its line. Assumes nothing.
+use borrow.Author.Needs.{needs}
+use Rattle.migrate.proofs.leaving.leave.Statement.{statement}
+use Rattle.migrate.proofs.leaving.leave.Tie as tie
+
+link-between-requires : tie.Need-link-between-requires
+link-between-requires c κs = search needs
+
+enum-told : tie.Need-enum-told
+enum-told c = search needs
+
+enum-told-2 : tie.Need-enum-told-2
+enum-told-2 c = search needs
+
+set-link-requires : tie.Need-set-link-requires
+set-link-requires c κs = search needs
+
+connect-requires : tie.Need-connect-requires
+connect-requires c κs = search needs
+
+enum-told-3 : tie.Need-enum-told-3
+enum-told-3 c = search needs
+
+set-link-requires-2 : tie.Need-set-link-requires-2
+set-link-requires-2 c κs = search needs
+
+awaiting-requires : tie.Need-awaiting-requires
+awaiting-requires c κs = search needs
+
+returns : tie.Need-returns
+returns c = rw (← c .before .before .link-between .ensures, c .enum-told .given .1)
+
+returns-2 : tie.Need-returns-2
+returns-2 c =
+    let arm = c .before .before in
+    rw (← arm .before .before .link-between .ensures, arm .enum-told2 .given .1, c .connect .ensures, c .before .set-link .ensures)
+
+returns-3 : tie.Need-returns-3
+returns-3 c =
+    let arm = c .before .before in
+    rw (← arm .before .before .link-between .ensures, arm .enum-told3 .given .1, c .awaiting .ensures, c .before .set-link2 .ensures)
+
+pub leave-spec : {M : Type 1} → statement M
+leave-spec =
+    tie.close
+    (tie.spec
+    link-between-requires
+    enum-told
+    enum-told-2
+    set-link-requires
+    connect-requires
+    enum-told-3
+    set-link-requires-2
+    awaiting-requires
+    returns
+    returns-2
+    returns-3)

@@ -1,7 +1,0 @@
--- Laws of the definitions that the contracts cite.
-pub mod Judged
-pub mod Messages
-pub mod Migrate
-pub mod Parts
-pub mod Settled
-pub mod Verdict

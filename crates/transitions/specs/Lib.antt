@@ -1,8 +1,0 @@
--- What the contracts of this crate cite, and laws of it.
-pub mod Laws
-pub mod Messages
-pub mod Migrate
-pub mod Parts
-pub mod Settled
-pub mod Tests
-pub mod Verdict
