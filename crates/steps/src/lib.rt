@@ -19,6 +19,7 @@ use transitions::messages;
 use transitions::migrate;
 
 pub mod decode;
+pub mod lent;
 
 // All of a step's outcome: the state afterwards, the answer, and the next position.
 pub struct Outcome {
