@@ -19,7 +19,7 @@ abbrev pub sendTests : Rank → Rank → Status → Status → Connection → �
 sendTests a b t u l n =
     twoTests a b t u ++ runningTests t ++ (test (isClosed l) NotConnected ∷ test (leb limit n) Full ∷ [])
 
--- take: of the two ranks' standings, and of the first message that the second one sent to the first
+-- take: of the two ranks' standings, and of the first message in place order from the second one to the first
 abbrev pub takeTests : Rank → Rank → Status → Status → Found → List Test
 takeTests b a t u f = twoTests b a t u ++ runningTests t ++ (test (isNothing f) NothingUnread ∷ [])
 

@@ -1,7 +1,7 @@
 // Send, take and look: the checks of each in the paper's order, and, where none applies, its change of the state.
 // Paper 01, "The step log", kinds 04, 05 and 0C.
 ghost use mathlib.Core.Path.{_≡_};
-ghost use Rattle.broker.specs.Messages.{placeOver, valueIn, take};
+ghost use Rattle.broker.specs.Messages.{placeOver, valueIn};
 ghost use Rattle.broker.specs.Ranks.{rank};
 ghost use Rattle.broker.specs.State.{view};
 ghost use Rattle.broker.specs.Step.{settle};
@@ -20,7 +20,6 @@ use checks::Settled;
 use checks::read::link_between;
 use checks::read::process_of;
 use checks::unread::is_nothing;
-use checks::unread::unread;
 use checks::verdict::Verdict;
 use transit::Found;
 use transit::Message;
@@ -63,17 +62,14 @@ fn place_over(line: Connection) -> Place
 fn deliver(b: Broker, m: Message) -> Settled
     ensures { λ out. ⌜ settled out ≡ accepted (deliver m (view b)) ⌝ }
 {
-    let sender = m.sender;
-    let receiver = m.receiver;
     let transit = b.transit;
     let appended = append(transit, m);
     let after = appended.transit;
-    let n = unread(after, Selection::Between(sender, receiver));
     let mut next = b;
     next.transit = after;
     Settled {
         broker: next,
-        answer: Answer::Accepted(n, 0, 0),
+        answer: Answer::Accepted(appended.pair, 0, 0),
     }
 }
 
@@ -127,25 +123,7 @@ fn value_in(found: Found) -> u32
     }
 }
 
-// The first message from `a` to `c` in place order leaves.
-fn receive(b: Broker, c: Rank, a: Rank) -> Settled
-    ensures { λ out. ⌜ settled out ≡ accepted (take c a (view b)) ⌝ }
-{
-    let pair = Selection::Between(a, c);
-    let transit = b.transit;
-    let removed = remove(transit, pair);
-    let found = removed.found;
-    let after = removed.transit;
-    let value = value_in(found);
-    let left = unread(after, pair);
-    let mut next = b;
-    next.transit = after;
-    Settled {
-        broker: next,
-        answer: Answer::Accepted(value, left, 0),
-    }
-}
-
+// The first message from `a` to `c` in place order leaves: one pass finds it and counts those that stay.
 pub fn take(b: Broker, c: Rank, a: Rank) -> Settled
     ensures { λ out. ⌜ settled out ≡ settle (rank 0) (Record.Take c a) (view b) ⌝ }
 {
@@ -155,14 +133,24 @@ pub fn take(b: Broker, c: Rank, a: Rank) -> Settled
     let q = process_of(processes, a);
     let receiver = p.status;
     let sender = q.status;
-    let found = first(transit, Selection::Between(a, c));
+    let removed = remove(transit, Selection::Between(a, c));
+    let found = removed.found;
     let verdict = take_checked(c, a, receiver, sender, found);
     match verdict {
         Verdict::Refused(n) => Settled {
             broker: b,
             answer: Answer::Refused(n),
         },
-        Verdict::Passed => receive(b, c, a),
+        Verdict::Passed => {
+            let after = removed.transit;
+            let value = value_in(found);
+            let mut next = b;
+            next.transit = after;
+            Settled {
+                broker: next,
+                answer: Answer::Accepted(value, removed.left, 0),
+            }
+        }
     }
 }
 

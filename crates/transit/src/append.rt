@@ -10,7 +10,7 @@ use crate::count::held;
 // `pair` is how many messages of the new one's pair are unread afterwards.
 pub struct Appended {
     pub full: bool,
-    pub pair: usize,
+    pub pair: u32,
     pub transit: Transit,
 }
 
@@ -23,7 +23,7 @@ pub fn append(t: Transit, m: Message) -> Appended
     let sender = m.sender;
     let receiver = m.receiver;
     let mut next = t;
-    let mut n: usize = 0;
+    let mut n: u32 = 0;
     let mut i: usize = 0;
     while i < end {
         let other = next.messages[i];

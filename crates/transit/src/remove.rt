@@ -14,7 +14,7 @@ use crate::count::held;
 // `left` is how many of the selected messages are unread afterwards.
 pub struct Removed {
     pub found: Found,
-    pub left: usize,
+    pub left: u32,
     pub transit: Transit,
 }
 
@@ -27,7 +27,7 @@ pub struct Sought {
 // What a search by place finds, and how many messages are selected.
 pub struct Search {
     pub best: Sought,
-    pub picked: usize,
+    pub picked: u32,
 }
 
 // Where the first of the selected messages by place and then by sending stands.
@@ -37,7 +37,7 @@ fn seek(t: Transit, s: Selection) -> Search
 {
     let end = held(t);
     let mut best = Sought { at: 0, least: 4 };
-    let mut n: usize = 0;
+    let mut n: u32 = 0;
     let mut i: usize = 0;
     while i < end {
         let m = t.messages[i];

@@ -12,16 +12,14 @@ use Rattle.messages.proofs.deliver.Tie as tie
 append-requires : tie.Need-append-requires
 append-requires c κs = search needs
 
-unread-requires : tie.Need-unread-requires
-unread-requires c κs = search needs
-
 returns : tie.Need-returns
 unfolding deliver
 returns c =
-    let after = ap (λ (x : AfterAppend). x .unread) (c .before .before .append .ensures) in
-    let m = c .before .before .before .before .before .before .args .m in
-    let left = c .unread .ensures ∙ ap (λ (u : Unread). tally (between (m .sender) (m .receiver)) (u .messages)) after in
+    let appended = c .before .append .ensures in
+    let after = ap (λ (x : AfterAppend). x .unread) (appended .0) in
+    let m = c .before .before .before .args .m in
+    let left = appended .1 ∙ ap (λ (u : Unread). tally (between (m .sender) (m .receiver)) (u .messages)) after in
     rw (left, after)
 
 pub deliver-spec : {M : Type 1} → statement M
-deliver-spec = tie.close (tie.spec append-requires unread-requires returns)
+deliver-spec = tie.close (tie.spec append-requires returns)

@@ -1,8 +1,12 @@
 -- `messages::take` meets its contract: the checks give the refusal of the definition, and where none applies the message leaves.
 -- Assumes nothing.
-use mathlib.Core.Path.{_≡_, _∙_}
+use mathlib.Core.Path.{_≡_, ap, _∙_}
 use borrow.Author.Needs.{needs}
+use Rattle.transit.specs.Lists.{tally}
+use Rattle.transit.specs.Message.{between}
+use Rattle.transit.specs.Unread.{Unread, AfterRemove}
 use Rattle.broker.specs.Checks.{refusal}
+use Rattle.broker.specs.Messages.{take, valueIn}
 use Rattle.broker.specs.Ranks.{rank}
 use Rattle.broker.specs.State.{State, view}
 use Rattle.broker.specs.Step.{apply}
@@ -30,7 +34,7 @@ checked c =
     rw (
       by-tests (lent c) .take (args .c) (args .a),
       c .take-checked .ensures,
-      c .before .first .ensures,
+      ap (λ (x : AfterRemove). x .found) (c .before .remove .ensures .0),
       c .before .before .process-of2 .ensures,
       c .before .before .before .process-of .ensures,
     )
@@ -41,8 +45,8 @@ process-of-requires c κs = search needs
 process-of-requires-2 : tie.Need-process-of-requires-2
 process-of-requires-2 c κs = search needs
 
-first-requires : tie.Need-first-requires
-first-requires c κs = search needs
+remove-requires : tie.Need-remove-requires
+remove-requires c κs = search needs
 
 take-checked-requires : tie.Need-take-checked-requires
 take-checked-requires c κs = search needs
@@ -53,8 +57,8 @@ enum-known-verdict c = search needs
 enum-told : tie.Need-enum-told
 enum-told c = search needs
 
-receive-requires : tie.Need-receive-requires
-receive-requires c κs = search needs
+value-in-requires : tie.Need-value-in-requires
+value-in-requires c κs = search needs
 
 returns : tie.Need-returns
 returns c =
@@ -62,10 +66,15 @@ returns c =
     refused-by (record-of v) (lent v) _ (checked v) (rank 0) _ (c .before .verdict .given .1)
 
 returns-2 : tie.Need-returns-2
-unfolding apply
+unfolding apply take
 returns-2 c =
-    let v = c .before .before .before in
-    c .receive .ensures ∙ accepted-by (record-of v) (lent v) _ (checked v) (rank 0) (c .before .enum-told .given .1)
+    let v = c .before .before .before .before in
+    let args = v .before .before .before .before .before .before .args in
+    let removed = v .before .remove .ensures in
+    let after = ap (λ (x : AfterRemove). x .unread) (removed .0) in
+    let value = c .value-in .ensures ∙ ap (λ (x : AfterRemove). valueIn (x .found)) (removed .0) in
+    let left = removed .1 ∙ ap (λ (u : Unread). tally (between (args .a) (args .c)) (u .messages)) after in
+    rw (value, left, after) (accepted-by (record-of v) (lent v) _ (checked v) (rank 0) (c .before .before .enum-told .given .1))
 
 pub take-spec : {M : Type 1} → statement M
 take-spec =
@@ -73,10 +82,10 @@ take-spec =
     (tie.spec
     process-of-requires
     process-of-requires-2
-    first-requires
+    remove-requires
     take-checked-requires
     enum-known-verdict
     enum-told
-    receive-requires
+    value-in-requires
     returns
     returns-2)

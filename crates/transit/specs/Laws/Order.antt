@@ -1,14 +1,15 @@
 -- Place order, and numbers that never fall.
 -- Assumes nothing.
 use mathlib.Core.Path.{_≡_, refl, sym, ap, _∙_, fun-ext}
-use mathlib.Core.Bool.{Bool, true, false, _&&_}
+use mathlib.Core.Bool.{Bool, true, false, cond, _&&_}
 use mathlib.Core.List.{List, [], _∷_, _++_, map, append-assoc, append-nil}
-use Prim.Native.Nat.{ℕ, _<_}
+use Prim.Native.Nat.{ℕ, suc, _+_, _<_}
 use native.Mathlib.Omega.{arith}
 use borrow.Author.Tests.{lt-ltb, ne-eqb}
 use lib.Dec.{leb, ltb}
-use Rattle.transit.specs.Lists.{select, without, every, neverFalls}
-use Rattle.transit.specs.Message.{placeNumber, number, at, picks, byPlace, placeOrder}
+use lib.ListN.{length, length-append}
+use Rattle.transit.specs.Lists.{select, tally, without, every, neverFalls}
+use Rattle.transit.specs.Message.{placeNumber, number, samePlace, at, picks, byPlace, placeOrder}
 use Rattle.transit.specs.Seek.{key}
 use Rattle.transit.specs.declared.Message.{Message}
 use Rattle.transit.specs.declared.Place.{Place}
@@ -47,6 +48,23 @@ key-is-place s p = fun-ext λ x.
 -- Place order is the order by the numbers of the places.
 byPlace-by-keys : (l : List Message) → byPlace l ≡ byKey number 0 4 l
 byPlace-by-keys l = simp (append-assoc, append-nil)
+
+-- A message more, at its place, is one more in all.
+placed : (p : Place) (m : Message) (s t u v : List Message) (n : ℕ) → length s + (length t + (length u + length v)) ≡ n
+    → length (cond (samePlace p SourceList) (m ∷ s) s) + (length (cond (samePlace p SourceChannel) (m ∷ t) t) + (length (cond (samePlace p EndList) (m ∷ u) u) + length (cond (samePlace p Channel) (m ∷ v) v))) ≡ suc n
+placed SourceList m s t u v n is = omega (arith, is)
+placed SourceChannel m s t u v n is = omega (arith, is)
+placed EndList m s t u v n is = omega (arith, is)
+placed Channel m s t u v n is = omega (arith, is)
+
+-- Each message is at one of the four places.
+at-places : (l : List Message) → tally (at SourceList) l + (tally (at SourceChannel) l + (tally (at EndList) l + tally (at Channel) l)) ≡ length l
+at-places [] = refl
+at-places (m ∷ l) = placed (m .place) m _ _ _ _ _ (at-places l)
+
+-- Place order has as many messages as are selected.
+pub placeOrder-length : (s : Selection) (l : List Message) → length (placeOrder s l) ≡ tally (picks s) l
+placeOrder-length s l = simp length-append (omega (arith, at-places (select (picks s) l)))
 
 -- The selected messages at a place are those that have its key.
 selected-at : (s : Selection) (l : List Message) (p : Place) → select (at p) (select (picks s) l) ≡ select (hasKey (key s) (placeNumber p)) l

@@ -5,9 +5,10 @@ use mathlib.Core.Bool.{Bool, true, _&&_}
 use mathlib.Core.List.{List, [], _∷_, map, head-eq-of-cons-eq}
 use borrow.Author.Tests.{eq-eqb}
 use Rattle.transit.specs.Lists.{select, without, neverFalls}
-use Rattle.transit.specs.Message.{number, at, picks}
+use Rattle.transit.specs.Message.{number, at, picks, placeOrder}
 use Rattle.transit.specs.Unread.{Unread, AfterRemove, head, leave, removed, counted}
-use Rattle.transit.specs.declared.Found.the-variants.{First}
+use Rattle.transit.specs.declared.Found.{Found}
+use Rattle.transit.specs.declared.Found.the-variants.{First, Nothing}
 use Rattle.transit.specs.declared.Message.{Message}
 use Rattle.transit.specs.declared.Selection.{Selection}
 use Rattle.transit.specs.Laws.Order.{place-order-is-list-order}
@@ -20,6 +21,15 @@ without-narrower {A} p q (y ∷ l) x rest first passes =
     by-test (p y)
     (λ e. let same : y ≡ x = head-eq-of-cons-eq (rw e at first) in rw (e, same, passes))
     (λ e. rw e (ap {B = List A} (λ m. y ∷ m) (without-narrower p q l x rest (rw e at first) passes)))
+
+-- What leaves is what is found.
+left-found : (s : Selection) (u : Unread) (f : Found) → leave s u f .found ≡ f
+left-found s u Nothing = refl
+left-found s u (First m) = refl
+
+-- A removal finds the head of place order.
+pub removed-found : (s : Selection) (u : Unread) → removed s u .found ≡ head (placeOrder s (u .messages))
+removed-found s u = left-found s u (head (placeOrder s (u .messages)))
 
 -- Where the places of the selected messages never fall, the one that was sent first leaves.
 pub removed-sent-first : (s : Selection) (u : Unread) (m : Message) (rest : List Message) → neverFalls (map number (select (picks s) (u .messages))) ≡ true → select (picks s) (u .messages) ≡ m ∷ rest

@@ -41,7 +41,7 @@ between-requires : tie.Need-between-requires Inv-loop μ-loop
 between-requires c κs = search needs
 
 add-n : tie.Need-add-n Inv-loop μ-loop
-add-n c = search needs
+add-n c = omega (arith, c .before .before .before .before .before .before .before .held .ensures .1)
 
 add-i : tie.Need-add-i Inv-loop μ-loop
 add-i c = search needs
@@ -78,7 +78,7 @@ add-next : tie.Need-add-next Inv-loop μ-loop
 add-next c = search needs
 
 add-pair : tie.Need-add-pair Inv-loop μ-loop
-add-pair c = search needs
+add-pair c = omega (arith, c .before .before .before .before .before .held .ensures .1)
 
 returns-2 : tie.Need-returns-2 Inv-loop μ-loop
 returns-2 c =

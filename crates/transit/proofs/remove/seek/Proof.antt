@@ -41,7 +41,7 @@ picks-requires : tie.Need-picks-requires Inv-loop μ-loop
 picks-requires c κs = search needs
 
 add-n : tie.Need-add-n Inv-loop μ-loop
-add-n c = search needs
+add-n c = omega (arith, c .before .before .before .before .before .held .ensures .1)
 
 number-requires : tie.Need-number-requires Inv-loop μ-loop
 number-requires c κs = search needs

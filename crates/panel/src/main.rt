@@ -1,0 +1,58 @@
+// A panel maker's first program: a fresh state, a log, a step for each of its records, and what each was answered.
+use broker::state::Broker;
+use libc::STDOUT_FILENO;
+use steps::step;
+
+// start 0 0, start 1 1, call 0 1, route 0 1, send 0 1 500, take 1 0, land 1
+const LOG: [u8; 24] = [
+    1,
+    0,
+    0,
+    1,
+    1,
+    1,
+    2,
+    0,
+    1,
+    3,
+    0,
+    1,
+    4,
+    0,
+    1,
+    244,
+    1,
+    0,
+    0,
+    5,
+    1,
+    0,
+    9,
+    1,
+];
+
+// The answer's number, 0 where the step is accepted, and its first value.
+fn tell(number: u8, value: u32) {
+    io::print_decimal(STDOUT_FILENO, number as u64);
+    io::write_all(STDOUT_FILENO, b" ");
+    io::print_decimal(STDOUT_FILENO, value as u64);
+    io::write_all(STDOUT_FILENO, b"\n");
+}
+
+fn main() {
+    let log = LOG;
+    let mut broker = Broker::fresh();
+    let mut at: usize = 0;
+    while at < 24 {
+        let done = step(broker, &log, at);
+        let answer = done.answer;
+        let values = answer.values();
+        tell(answer.number(), values.0);
+        let next = done.next;
+        if next <= at {
+            return;
+        }
+        broker = done.broker;
+        at = next;
+    }
+}
