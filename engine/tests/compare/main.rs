@@ -4,7 +4,6 @@
 //! the one that `REPLAY` names, else `../target/bin/replay`.
 
 mod alike;
-mod bits;
 mod examples;
 mod expected;
 mod garbage;
