@@ -9,6 +9,7 @@ pub mod bits;
 pub mod checks;
 pub mod desk;
 pub mod generate;
+mod lines;
 pub mod mail;
 pub mod names;
 pub mod rank_set;
