@@ -14,6 +14,8 @@ mod paper;
 mod printed_run;
 mod probes;
 mod program;
+#[path = "../shared/proved_program.rs"]
+mod proved_program;
 mod random;
 #[path = "../shared/situations.rs"]
 mod situations;
