@@ -1,8 +1,9 @@
 //! Measures the proved program against `engine-replay` on the same logs and
-//! prints two tables in markdown: records per second on each input, and the
-//! memory that each program comes to at a full desk. It fails where their
+//! prints two tables in markdown: records per second of processor time on each
+//! input, and the most memory that each program comes to. It fails where their
 //! outputs differ.
 
+mod cost;
 mod input;
 mod measure;
 mod options;
@@ -10,8 +11,8 @@ mod pass;
 mod refused;
 mod table;
 
-use input::{inputs, Counts, Input};
-use measure::{fastest, peak_kib, Folder, Programs};
+use input::{inputs, Counts};
+use measure::{Costs, Folder};
 use options::Options;
 use std::io::{self, Write};
 use std::process::ExitCode;
@@ -35,22 +36,14 @@ fn measured() -> Result<String, String> {
     let options = Options::read()?;
     let programs = options.programs()?;
     let folder = Folder::make()?;
-    let [pass, full, refused] = inputs(options.records);
     let mut text = String::from(table::HEADER);
-    for input in [&pass, &full, &refused] {
-        text += &measured_row(input, &programs, &folder)?;
+    let mut most = Costs::OF_NONE;
+    for input in inputs(options.records) {
+        let costs = folder
+            .measure(&programs, &input.log)
+            .map_err(|problem| format!("{}: {problem}", input.name))?;
+        text += &table::row(input.name, &Counts::of(&input.log), &costs);
+        most = most.and(costs);
     }
-    folder.put_log(&full.log)?;
-    let proved = peak_kib(&programs.proved, &folder)?;
-    let rust = peak_kib(&programs.rust, &folder)?;
-    Ok(text + &table::memory(proved, rust))
-}
-
-/// The row of an input.
-fn measured_row(input: &Input, programs: &Programs, folder: &Folder) -> Result<String, String> {
-    folder.put_log(&input.log)?;
-    let counts = Counts::of(&input.log);
-    let times =
-        fastest(programs, folder).map_err(|problem| format!("{}: {problem}", input.name))?;
-    Ok(table::row(input.name, &counts, &times))
+    Ok(text + &table::memory(&most))
 }

@@ -1,7 +1,7 @@
 //! The tables in markdown.
 
 use crate::input::Counts;
-use crate::measure::Times;
+use crate::measure::Costs;
 use std::time::Duration;
 
 pub const HEADER: &str = "\
@@ -10,30 +10,32 @@ pub const HEADER: &str = "\
 ";
 
 /// What an input came to.
-pub fn row(name: &str, counts: &Counts, times: &Times) -> String {
+pub fn row(name: &str, counts: &Counts, costs: &Costs) -> String {
+    let (proved, rust) = (costs.proved.time, costs.rust.time);
     let numbers = [
         counts.records,
         counts.accepted,
         counts.refused(),
         counts.mean_unread(),
-        rate(counts.records, times.proved),
-        rate(counts.records, times.rust),
+        rate(counts.records, proved),
+        rate(counts.records, rust),
     ];
     let cells = numbers.map(grouped).join(" | ");
-    let ratio = times.proved.as_secs_f64() / times.rust.as_secs_f64();
+    let ratio = proved.as_secs_f64() / rust.as_secs_f64();
     format!("| {name} | {cells} | {ratio:.1} |\n")
 }
 
 /// The second table: what memory each program comes to.
-pub fn memory(proved_kib: u64, rust_kib: u64) -> String {
-    let mut text = String::from("\n| Program | Peak memory, KiB |\n|---|---:|\n");
-    for (name, kib) in [
-        ("`replay`, proved", proved_kib),
-        ("`engine-replay`, Rust", rust_kib),
-    ] {
-        text += &format!("| {name} | {} |\n", grouped(kib));
-    }
-    text
+pub fn memory(most: &Costs) -> String {
+    let [proved, rust] = [most.proved, most.rust].map(|cost| grouped(cost.memory_kib));
+    format!(
+        "
+| Program | Peak memory, KiB |
+|---|---:|
+| `replay`, proved | {proved} |
+| `engine-replay`, Rust | {rust} |
+"
+    )
 }
 
 fn rate(records: u64, time: Duration) -> u64 {
