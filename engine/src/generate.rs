@@ -2,6 +2,7 @@
 //! of paper 01, "The step log", proposed by looking at the state, so that most
 //! are accepted. The same seed and mix always give the same log.
 
+use crate::bits::Bits;
 use crate::desk::Desk;
 use crate::mail::Mail;
 use crate::names::Rank;
@@ -41,7 +42,7 @@ impl Mix {
 #[derive(Clone, Debug)]
 pub struct Generator {
     mix: Mix,
-    bits: u64,
+    bits: Bits,
     filling: bool,
 }
 
@@ -54,7 +55,7 @@ impl Generator {
     pub fn new(seed: u64, mix: Mix) -> Generator {
         Generator {
             mix,
-            bits: seed.wrapping_mul(0x9E37_79B9_7F4A_7C15) | 1,
+            bits: Bits::new(seed),
             filling: true,
         }
     }
@@ -63,7 +64,7 @@ impl Generator {
     /// desk refuses.
     pub fn propose(&mut self, desk: &Desk) -> Step {
         self.turn_tide(desk.mail().unread());
-        if self.below(self.mix.stray_one_in) == 0 {
+        if self.bits.below(self.mix.stray_one_in) == 0 {
             return self.stray_step(desk);
         }
         for _ in 0..Self::TRIES {
@@ -77,7 +78,7 @@ impl Generator {
 
     /// The desk fills until it is full, stays so for a while, and empties.
     fn turn_tide(&mut self, unread: usize) {
-        if unread >= Mail::LIMIT && self.below(64) == 0 {
+        if unread >= Mail::LIMIT && self.bits.below(64) == 0 {
             self.filling = false;
         } else if unread < Mail::LIMIT / 64 {
             self.filling = true;
@@ -94,7 +95,7 @@ impl Generator {
     }
 
     fn weighted_kind(&mut self) -> Kind {
-        let mut left = self.below(self.mix.weights.iter().sum());
+        let mut left = self.bits.below(self.mix.weights.iter().sum());
         for kind in Kind::ALL {
             match left.checked_sub(self.weight(kind)) {
                 Some(rest) => left = rest,
@@ -110,9 +111,9 @@ impl Generator {
         if kind == Kind::End && self.enough_ended(desk) {
             return None;
         }
-        let offset = self.next_bits() as u8;
-        let stride = self.next_bits() as u8 | 1;
-        let value = self.next_bits();
+        let offset = self.bits.next_bits() as u8;
+        let stride = self.bits.next_bits() as u8 | 1;
+        let value = self.bits.next_bits();
         (0..=u8::MAX)
             .map(|turn| offset.wrapping_add(turn.wrapping_mul(stride)))
             .map(|pair| Step::from_fields(kind, pair >> 4, pair & 15, value))
@@ -130,9 +131,9 @@ impl Generator {
     /// A step of any kind with fields mostly in range; a look in place of an
     /// end too many, lest a long log run out of ranks.
     fn stray_step(&mut self, desk: &Desk) -> Step {
-        let kind = Kind::ALL[self.below(Kind::ALL.len() as u32) as usize];
+        let kind = Kind::ALL[self.bits.below(Kind::ALL.len() as u32) as usize];
         let (first, second) = (self.stray_field(), self.stray_field());
-        let step = Step::from_fields(kind, first, second, self.next_bits());
+        let step = Step::from_fields(kind, first, second, self.bits.next_bits());
         match step {
             Step::End { r } if desk.check(step).is_ok() && self.enough_ended(desk) => {
                 Step::Look { r }
@@ -142,20 +143,8 @@ impl Generator {
     }
 
     fn stray_field(&mut self) -> u8 {
-        let limit = if self.below(16) == 0 { 256 } else { 16 };
-        self.below(limit) as u8
-    }
-
-    fn below(&mut self, limit: u32) -> u32 {
-        self.next_bits() % limit
-    }
-
-    /// Xorshift on 64 bits, of which the upper half is used.
-    fn next_bits(&mut self) -> u32 {
-        self.bits ^= self.bits << 13;
-        self.bits ^= self.bits >> 7;
-        self.bits ^= self.bits << 17;
-        (self.bits >> 32) as u32
+        let limit = if self.bits.below(16) == 0 { 256 } else { 16 };
+        self.bits.below(limit) as u8
     }
 }
 

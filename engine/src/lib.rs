@@ -5,9 +5,11 @@
 #![forbid(unsafe_code)]
 #![warn(missing_docs)]
 
+pub mod bits;
 pub mod checks;
 pub mod desk;
 pub mod generate;
+mod lines;
 pub mod mail;
 pub mod names;
 pub mod rank_set;

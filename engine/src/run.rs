@@ -3,8 +3,8 @@
 //! A log is a slice, or a stream read through at most 65,536 bytes.
 
 use crate::desk::Desk;
-use crate::names::Rank;
-use crate::refusal::{number_of, values_of, Answer, Refusal};
+use crate::lines::{print_record, print_unread, LONGEST_LINE};
+use crate::refusal::{Answer, Refusal};
 use std::fmt;
 use std::io::{self, ErrorKind, Read, Write};
 
@@ -13,9 +13,6 @@ const WINDOW_BYTES: usize = 65_536;
 
 /// Printed text is handed on in pieces of about this size.
 const PIECE_BYTES: usize = 65_536;
-
-/// The longest line: a position of twenty digits and three values of ten.
-const LONGEST_LINE: usize = 64;
 
 /// What kept a run from being read or printed to its end.
 #[derive(Debug)]
@@ -143,56 +140,4 @@ impl<R: Read> Window<R> {
 /// "It stops at the log's end without a line for it, or after a 2 or 3."
 fn stops_run(answer: &Answer) -> bool {
     answer.is_err_and(Refusal::keeps_position)
-}
-
-/// Position, kind, number, v1, v2, v3.
-fn print_record(text: &mut Vec<u8>, position: u64, kind: u8, answer: &Answer) {
-    const DIGITS: &[u8; 16] = b"0123456789ABCDEF";
-    push_decimal(text, position);
-    let high = DIGITS[usize::from(kind >> 4)];
-    let low = DIGITS[usize::from(kind & 15)];
-    text.extend_from_slice(&[b' ', high, low]);
-    push_field(text, u64::from(number_of(answer)));
-    for value in values_of(answer) {
-        push_field(text, u64::from(value));
-    }
-    text.push(b'\n');
-}
-
-/// "For each ordered pair with unread messages, ascending by sender and
-/// receiver: `pair`, sender, receiver, counts at places 0 to 3. Then `end`."
-fn print_unread(text: &mut Vec<u8>, desk: &Desk) {
-    for sender in Rank::all() {
-        for receiver in Rank::all() {
-            if desk.mail().unread_between(sender, receiver) > 0 {
-                text.extend_from_slice(b"pair");
-                push_field(text, u64::from(sender.0));
-                push_field(text, u64::from(receiver.0));
-                for count in desk.mail().counts(sender, receiver) {
-                    push_field(text, u64::from(count));
-                }
-                text.push(b'\n');
-            }
-        }
-    }
-    text.extend_from_slice(b"end\n");
-}
-
-fn push_field(text: &mut Vec<u8>, number: u64) {
-    text.push(b' ');
-    push_decimal(text, number);
-}
-
-fn push_decimal(text: &mut Vec<u8>, mut number: u64) {
-    let mut digits = [0; 20];
-    let mut first = digits.len();
-    loop {
-        first -= 1;
-        digits[first] = b'0' + (number % 10) as u8;
-        number /= 10;
-        if number == 0 {
-            break;
-        }
-    }
-    text.extend_from_slice(&digits[first..]);
 }

@@ -1,13 +1,13 @@
 //! Logs of any bytes: none at all, every single byte, and noise that is more
 //! or less like records.
 
-use crate::bits::Bits;
 use crate::log::{Feed, Log};
+use engine::bits::Bits;
 use engine::Kind;
 
 /// Bytes without any order, up to a highest one.
 fn noise(bits: &mut Bits, length: usize, highest: u8) -> Vec<u8> {
-    let limit = usize::from(highest) + 1;
+    let limit = u32::from(highest) + 1;
     (0..length).map(|_| bits.below(limit) as u8).collect()
 }
 
@@ -15,7 +15,7 @@ fn noise(bits: &mut Bits, length: usize, highest: u8) -> Vec<u8> {
 fn loose_records(bits: &mut Bits, count: usize, highest: u8) -> Vec<u8> {
     let mut log = Vec::new();
     for _ in 0..count {
-        let kind = Kind::ALL[bits.below(Kind::ALL.len())];
+        let kind = Kind::ALL[bits.below(Kind::ALL.len() as u32) as usize];
         log.push(kind as u8);
         log.extend(noise(bits, kind.body_length(), highest));
     }
@@ -33,7 +33,7 @@ pub fn logs() -> Vec<Log> {
     }
     for turn in 0..150 {
         let highest = [15, 31, 255][turn % 3];
-        let length = 2 + bits.below(400);
+        let length = 2 + bits.below(400) as usize;
         let bytes = noise(&mut bits, length, highest);
         logs.push(Log::new(format!("noise-{turn}"), bytes, Feed::Pipe));
         let bytes = loose_records(&mut bits, length, highest);

@@ -4,7 +4,6 @@
 //! the one that `REPLAY` names, else `../target/bin/replay`.
 
 mod alike;
-mod bits;
 mod examples;
 mod expected;
 mod garbage;
@@ -15,6 +14,8 @@ mod paper;
 mod printed_run;
 mod probes;
 mod program;
+#[path = "../shared/proved_program.rs"]
+mod proved_program;
 mod random;
 #[path = "../shared/situations.rs"]
 mod situations;

@@ -1,6 +1,7 @@
 //! The program to compare with: where it is, and how it is run. A run that
 //! prints without end or does not stop is ended, and reported.
 
+use crate::proved_program::{program_at, USUAL_PLACE};
 use std::env;
 use std::fs::File;
 use std::io::{self, Read, Write};
@@ -9,8 +10,6 @@ use std::process::{ChildStderr, ChildStdin, ChildStdout, Command, Output, Stdio}
 use std::sync::{mpsc, Mutex, MutexGuard, PoisonError};
 use std::thread;
 use std::time::Duration;
-
-const USUAL_PLACE: &str = concat!(env!("CARGO_MANIFEST_DIR"), "/../target/bin/replay");
 
 /// A single run may take so long.
 const TIME_LIMIT: Duration = Duration::from_secs(60);
@@ -36,27 +35,15 @@ pub struct Program {
 }
 
 impl Program {
-    /// The program, for one test at a time. Where there is none, this fails if
-    /// `REPLAY_REQUIRED` is 1, and otherwise says that the test is skipped.
+    /// The program that `REPLAY` names, else the one at its usual place, for
+    /// one test at a time.
     pub fn find() -> Option<Program> {
         static TURN: Mutex<()> = Mutex::new(());
         let place = env::var_os("REPLAY").unwrap_or_else(|| USUAL_PLACE.into());
-        let place = PathBuf::from(place);
-        if let Ok(path) = place.canonicalize() {
-            return Some(Program {
-                path,
-                _turn: TURN.lock().unwrap_or_else(PoisonError::into_inner),
-            });
-        }
-        let missing = format!(
-            "there is no program to compare with at {}; build it, or name it in REPLAY",
-            place.display()
-        );
-        let required = env::var_os("REPLAY_REQUIRED").is_some_and(|value| value == "1");
-        assert!(!required, "{missing}");
-        // Written directly: what a passing test prints is not shown.
-        let _ = writeln!(io::stderr(), "comparison SKIPPED: {missing}");
-        None
+        Some(Program {
+            path: program_at(place)?,
+            _turn: TURN.lock().unwrap_or_else(PoisonError::into_inner),
+        })
     }
 
     /// Runs the program. It may print at most so many bytes.

@@ -2,8 +2,8 @@
 //! lengths; and each of them spoiled: cut at every byte of its last record,
 //! and with single bytes changed.
 
-use crate::bits::Bits;
 use crate::log::{Feed, Log};
+use engine::bits::Bits;
 use engine::generate::{random_log, Mix};
 use engine::Step;
 
@@ -110,7 +110,7 @@ fn cut(log: &Log) -> impl Iterator<Item = Log> + '_ {
 /// third turned over.
 fn changed(log: &Log, bits: &mut Bits) -> [Log; 3] {
     [1 << bits.below(4), 1 << bits.below(8), 0xFF].map(|mask: u8| {
-        let index = bits.below(log.bytes.len());
+        let index = bits.below(log.bytes.len() as u32) as usize;
         let mut bytes = log.bytes.clone();
         bytes[index] ^= mask;
         Log {

@@ -1,0 +1,82 @@
+//! Both programs on the same log, in turns: whether their outputs are equal,
+//! and what each costs.
+
+use crate::cost::Cost;
+use std::fs;
+use std::path::PathBuf;
+use std::{env, io, process};
+
+/// Each program is run so often on a log.
+const ROUNDS: usize = 3;
+
+/// The two programs to measure.
+pub struct Programs {
+    pub proved: PathBuf,
+    pub rust: PathBuf,
+}
+
+/// What the two programs cost.
+#[derive(Clone, Copy)]
+pub struct Costs {
+    pub proved: Cost,
+    pub rust: Cost,
+}
+
+impl Costs {
+    /// The costs of no runs.
+    pub const OF_NONE: Costs = Costs {
+        proved: Cost::OF_NONE,
+        rust: Cost::OF_NONE,
+    };
+
+    /// The costs of these runs and others.
+    pub fn and(self, other: Costs) -> Costs {
+        Costs {
+            proved: self.proved.and(other.proved),
+            rust: self.rust.and(other.rust),
+        }
+    }
+}
+
+/// A folder for a log and two outputs, removed at the end.
+pub struct Folder(PathBuf);
+
+impl Folder {
+    pub fn make() -> Result<Folder, String> {
+        let path = env::temp_dir().join(format!("desk-bench-{}", process::id()));
+        fs::create_dir(&path)
+            .map_err(|error| format!("cannot make {}: {error}", path.display()))?;
+        Ok(Folder(path))
+    }
+
+    /// Runs both programs in turns on a log. Their outputs must be equal each
+    /// time.
+    pub fn measure(&self, programs: &Programs, log: &[u8]) -> Result<Costs, String> {
+        let place = self.0.join("log");
+        let outputs = ["proved", "rust"].map(|name| self.0.join(name));
+        fs::write(&place, log).map_err(unusable)?;
+        let mut costs = Costs::OF_NONE;
+        for _ in 0..ROUNDS {
+            costs = costs.and(Costs {
+                proved: Cost::of_run(&programs.proved, &place, &outputs[0])?,
+                rust: Cost::of_run(&programs.rust, &place, &outputs[1])?,
+            });
+            let [proved, rust] = outputs.each_ref().map(fs::read);
+            if proved.map_err(unusable)? != rust.map_err(unusable)? {
+                return Err("the outputs of the two programs differ".to_owned());
+            }
+        }
+        Ok(costs)
+    }
+}
+
+fn unusable(error: io::Error) -> String {
+    format!("cannot use the temporary folder: {error}")
+}
+
+impl Drop for Folder {
+    fn drop(&mut self) {
+        // What can't be removed is left to the temporary folder's owner.
+        let _ = fs::remove_dir_all(&self.0);
+    }
+}

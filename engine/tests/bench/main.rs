@@ -1,0 +1,111 @@
+//! The program `bench` on small inputs: its tables, that it fails where the
+//! outputs differ, and that it leaves nothing behind.
+
+#[path = "../shared/proved_program.rs"]
+mod proved_program;
+
+use proved_program::{program_at, USUAL_PLACE};
+use std::ffi::OsStr;
+use std::fs;
+use std::ops::RangeInclusive;
+use std::process::{Command, Output};
+
+const ENGINE: &str = env!("CARGO_BIN_EXE_engine-replay");
+
+/// How many records are asked for.
+const RECORDS: f64 = 20_000.0;
+
+/// Runs the program with these two to measure. Its temporary folder has this
+/// name, and must be empty afterwards.
+fn bench(name: &str, replay: impl AsRef<OsStr>, engine: &str) -> Output {
+    let folder = format!("{}/{name}", env!("CARGO_TARGET_TMPDIR"));
+    fs::create_dir_all(&folder).unwrap();
+    let output = Command::new(env!("CARGO_BIN_EXE_bench"))
+        .args([
+            "--records",
+            &RECORDS.to_string(),
+            "--engine",
+            engine,
+            "--replay",
+        ])
+        .arg(replay)
+        .env("TMPDIR", &folder)
+        .output()
+        .unwrap();
+    assert_eq!(fs::read_dir(&folder).unwrap().count(), 0, "in {folder}");
+    output
+}
+
+/// The numbers of a table's row, without their commas.
+fn numbers(row: &str) -> Vec<f64> {
+    let cells = row.trim_matches('|').split('|').skip(1);
+    cells
+        .map(|cell| cell.trim().replace(',', "").parse().unwrap())
+        .collect()
+}
+
+/// The row of an input has so many refused records and so many unread on the
+/// average, and two rates with their ratio.
+fn check_row(row: &str, refused: f64, mean_unread: RangeInclusive<f64>) {
+    let numbers = numbers(row);
+    assert_eq!(numbers.len(), 7, "{row}");
+    assert!(
+        numbers[0] >= RECORDS && numbers[0] < RECORDS + 5_000.0,
+        "{row}"
+    );
+    assert_eq!(numbers[1] + numbers[2], numbers[0], "{row}");
+    assert_eq!(numbers[2], refused, "{row}");
+    assert!(mean_unread.contains(&numbers[3]), "{row}");
+    assert!(numbers[4..].iter().all(|&number| number > 0.0), "{row}");
+}
+
+#[test]
+fn a_small_run_prints_a_row_for_each_input() {
+    let Some(replay) = program_at(USUAL_PLACE) else {
+        return;
+    };
+    let output = bench("bench-small", replay, ENGINE);
+    let said = String::from_utf8_lossy(&output.stderr);
+    assert!(output.status.success() && said.is_empty(), "{said}");
+    let printed = String::from_utf8(output.stdout).unwrap();
+    let lines: Vec<&str> = printed.lines().collect();
+    assert_eq!(lines.len(), 10, "{printed}");
+    check_row(lines[2], 0.0, 250.0..=550.0);
+    check_row(lines[3], 0.0, 850.0..=1_024.0);
+    check_row(lines[4], RECORDS, 250.0..=550.0);
+    assert!(lines[8].starts_with("| `replay`, proved | "));
+    assert!(lines[9].starts_with("| `engine-replay`, Rust | "));
+}
+
+#[test]
+fn programs_that_differ_are_told() {
+    for (replay, engine) in [(ENGINE, "cat"), ("/bin/cat", ENGINE)] {
+        let output = bench("bench-differ", replay, engine);
+        assert_eq!(output.status.code(), Some(1));
+        assert_eq!(output.stdout, b"");
+        let said = String::from_utf8(output.stderr).unwrap();
+        let problem = "the outputs of the two programs differ\n";
+        assert!(said.ends_with(problem), "{said}");
+    }
+}
+
+#[test]
+fn a_program_that_fails_is_told() {
+    let output = bench("bench-fails", ENGINE, "false");
+    assert_eq!(output.status.code(), Some(1));
+    let said = String::from_utf8(output.stderr).unwrap();
+    assert!(said.contains("false ended with exit status: 1"), "{said}");
+}
+
+#[test]
+fn other_arguments_get_the_usage() {
+    for arguments in [&["--records"][..], &["--records", "0"], &["--fast", "1"]] {
+        let output = Command::new(env!("CARGO_BIN_EXE_bench"))
+            .args(arguments)
+            .output()
+            .unwrap();
+        assert_eq!(output.status.code(), Some(1));
+        let said = String::from_utf8(output.stderr).unwrap();
+        assert!(said.starts_with("bench: usage: bench "), "{said}");
+    }
+}

@@ -1,0 +1,36 @@
+//! docs/PERFORMANCE.md has the tables that the benchmark prints: their columns
+//! and the names of their rows. The figures are measured, and not compared.
+
+use crate::proved_program::{program_at, USUAL_PLACE};
+use crate::tables::{tables, tables_of, Table};
+use std::process::Command;
+
+/// A table without its figures.
+fn outline(table: &Table) -> (String, Vec<String>) {
+    let names = table.rows.iter().map(|row| row[0].clone()).collect();
+    (table.header.clone(), names)
+}
+
+#[test]
+fn document_has_the_tables_of_the_benchmark() {
+    let Some(replay) = program_at(USUAL_PLACE) else {
+        return;
+    };
+    let output = Command::new(env!("CARGO_BIN_EXE_bench"))
+        .args(["--records", "5000"])
+        .args(["--engine", env!("CARGO_BIN_EXE_engine-replay"), "--replay"])
+        .arg(replay)
+        .output()
+        .unwrap();
+    assert!(output.status.success());
+    let printed = String::from_utf8(output.stdout).unwrap();
+    let printed: Vec<_> = tables(printed.lines()).iter().map(outline).collect();
+    assert_eq!(printed.len(), 2);
+    let documented: Vec<_> = tables_of("docs/PERFORMANCE.md")
+        .iter()
+        .map(outline)
+        .collect();
+    for table in printed {
+        assert!(documented.contains(&table), "{table:?} in {documented:?}");
+    }
+}
