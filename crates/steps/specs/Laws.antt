@@ -21,7 +21,7 @@ use Rattle.broker.specs.declared.record.Decoded.the-variants.{Whole, Unknown, C
 use Rattle.broker.specs.declared.record.Record.{Record}
 use Rattle.broker.specs.declared.record.Record.the-variants.{Start, Call, Route, Send, Take, Move, Heed, Drain, Land, Part, End, Look}
 use Rattle.broker.specs.declared.state.Broker.{Broker}
-use Rattle.messages.specs.Laws.Look.{accepted-look-has-unread}
+use Rattle.exchange.specs.Laws.Look.{accepted-look-has-unread}
 use Rattle.steps.specs.Outcome.{nameFor, nameAt, RefusalKeeps}
 
 module _ (s : State) (log : List ℕ) (at : ℕ) where

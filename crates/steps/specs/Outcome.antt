@@ -14,7 +14,7 @@ use Rattle.broker.specs.declared.record.Decoded.the-variants.{Whole, Unknown, C
 use Rattle.broker.specs.declared.record.Record.{Record}
 use Rattle.broker.specs.declared.record.Record.the-variants.{Start, Call, Route, Send, Take, Move, Heed, Drain, Land, Part, End, Look}
 use Rattle.broker.specs.declared.state.Broker.{Broker}
-use Rattle.messages.specs.Look.{oldest}
+use Rattle.exchange.specs.Look.{oldest}
 use Rattle.steps.specs.declared.Outcome.{Outcome}
 use Rattle.steps.specs.declared.lent.Reply.{Reply}
 

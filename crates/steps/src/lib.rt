@@ -32,15 +32,15 @@ pub fn settle(b: Broker, read: Record) -> Settled
         Record::Start(r, host) => life::start(b, r, host),
         Record::Call(a, c) => connect::call(b, a, c),
         Record::Route(a, c) => connect::route(b, a, c),
-        Record::Send(a, c, value) => messages::send(b, a, c, value),
-        Record::Take(c, a) => messages::take(b, c, a),
+        Record::Send(a, c, value) => exchange::send(b, a, c, value),
+        Record::Take(c, a) => exchange::take(b, c, a),
         Record::Move(r, host) => migrate::move_to(b, r, host),
         Record::Heed(c, r) => migrate::heed(b, c, r),
         Record::Drain(r, p) => migrate::drain(b, r, p),
         Record::Land(r) => migrate::land(b, r),
         Record::Part(a, c) => connect::part(b, a, c),
         Record::End(r) => life::end(b, r),
-        Record::Look(r) => messages::look(b, r),
+        Record::Look(r) => exchange::look(b, r),
     }
 }
 

@@ -22,7 +22,7 @@ use Rattle.broker.specs.State.{State, messages}
 use Rattle.broker.specs.Step.{nameFitsRecord}
 use Rattle.broker.specs.declared.answer.Refusal.{Refusal}
 use Rattle.broker.specs.declared.record.Record.the-variants.{Look}
-use Rattle.messages.specs.Look.{senderIn, oldest}
+use Rattle.exchange.specs.Look.{senderIn, oldest}
 
 -- where a message is to r, one is from the sender of the first of them
 sender-counts : (r : Rank) (l : List Message) → 0 < tally (to r) l → 0 < tally (between (senderIn (head (select (to r) l))) r) l

@@ -15,7 +15,7 @@ use Rattle.broker.specs.declared.record.Record.the-variants.{Send, Take, Look}
 use Rattle.checks.specs.Laws.Unread.{no-head}
 use Rattle.checks.specs.Laws.Verdict.{judged-first}
 use Rattle.checks.specs.Verdict.{passed, judged}
-use Rattle.messages.specs.Tests.{sendTests, takeTests, lookTests}
+use Rattle.exchange.specs.Tests.{sendTests, takeTests, lookTests}
 
 -- each kind's refusal, by its tests at the parts of a state
 pub record Judged (s : State) : Type 0 where

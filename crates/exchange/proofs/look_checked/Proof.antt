@@ -1,7 +1,7 @@
--- `messages::look_checked` meets its contract: each check is its test. Assumes nothing.
+-- `exchange::look_checked` meets its contract: each check is its test. Assumes nothing.
 use borrow.Author.Needs.{needs}
-use Rattle.messages.proofs.look_checked.Statement.{statement}
-use Rattle.messages.proofs.look_checked.Tie as tie
+use Rattle.exchange.proofs.look_checked.Statement.{statement}
+use Rattle.exchange.proofs.look_checked.Tie as tie
 
 on-one-requires : tie.Need-on-one-requires
 on-one-requires c κs = search needs

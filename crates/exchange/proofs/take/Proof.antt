@@ -1,4 +1,4 @@
--- `messages::take` meets its contract: the checks give the refusal of the definition, and where none applies the message leaves.
+-- `exchange::take` meets its contract: the checks give the refusal of the definition, and where none applies the message leaves.
 -- Assumes nothing.
 use mathlib.Core.Path.{_≡_, ap, _∙_}
 use borrow.Author.Needs.{needs}
@@ -14,9 +14,9 @@ use Rattle.broker.specs.declared.record.Record.{Record}
 use Rattle.broker.specs.declared.record.Record.the-variants.{Take}
 use Rattle.checks.specs.Laws.Settled.{refused-by, accepted-by}
 use Rattle.checks.specs.Verdict.{verdictOf}
-use Rattle.messages.specs.Laws.Judged.{by-tests}
-use Rattle.messages.proofs.take.Statement.{statement}
-use Rattle.messages.proofs.take.Tie as tie
+use Rattle.exchange.specs.Laws.Judged.{by-tests}
+use Rattle.exchange.proofs.take.Statement.{statement}
+use Rattle.exchange.proofs.take.Tie as tie
 
 -- the state lent, and the record
 abbrev lent : tie.After-take-checked → State

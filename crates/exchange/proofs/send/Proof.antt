@@ -1,4 +1,4 @@
--- `messages::send` meets its contract: the checks give the refusal of the definition, and where none applies the message is unread.
+-- `exchange::send` meets its contract: the checks give the refusal of the definition, and where none applies the message is unread.
 -- Assumes nothing.
 use mathlib.Core.Path.{_≡_, _∙_}
 use borrow.Author.Needs.{needs}
@@ -11,10 +11,10 @@ use Rattle.broker.specs.declared.record.Record.{Record}
 use Rattle.broker.specs.declared.record.Record.the-variants.{Send}
 use Rattle.checks.specs.Laws.Settled.{refused-by, accepted-by}
 use Rattle.checks.specs.Verdict.{verdictOf}
-use Rattle.messages.specs.Laws.Judged.{by-tests}
-use Rattle.messages.specs.Deliver.{deliver}
-use Rattle.messages.proofs.send.Statement.{statement}
-use Rattle.messages.proofs.send.Tie as tie
+use Rattle.exchange.specs.Laws.Judged.{by-tests}
+use Rattle.exchange.specs.Deliver.{deliver}
+use Rattle.exchange.proofs.send.Statement.{statement}
+use Rattle.exchange.proofs.send.Tie as tie
 
 -- the state lent, and the record
 abbrev lent : tie.After-send-checked → State

@@ -1,7 +1,7 @@
--- `messages::send_checked` meets its contract: each check is its test. Assumes nothing.
+-- `exchange::send_checked` meets its contract: each check is its test. Assumes nothing.
 use borrow.Author.Needs.{needs}
-use Rattle.messages.proofs.send_checked.Statement.{statement}
-use Rattle.messages.proofs.send_checked.Tie as tie
+use Rattle.exchange.proofs.send_checked.Statement.{statement}
+use Rattle.exchange.proofs.send_checked.Tie as tie
 
 on-two-requires : tie.Need-on-two-requires
 on-two-requires c κs = search needs

@@ -1,4 +1,4 @@
--- `messages::look` meets its contract: the checks give the refusal of the definition, and where none applies the sender of the first message is named.
+-- `exchange::look` meets its contract: the checks give the refusal of the definition, and where none applies the sender of the first message is named.
 -- Assumes nothing.
 use mathlib.Core.Path.{_≡_}
 use borrow.Author.Needs.{needs}
@@ -10,10 +10,10 @@ use Rattle.broker.specs.declared.record.Record.{Record}
 use Rattle.broker.specs.declared.record.Record.the-variants.{Look}
 use Rattle.checks.specs.Laws.Settled.{refused-by, accepted-by}
 use Rattle.checks.specs.Verdict.{verdictOf}
-use Rattle.messages.specs.Laws.Judged.{by-tests}
-use Rattle.messages.specs.Look.{oldest}
-use Rattle.messages.proofs.look.Statement.{statement}
-use Rattle.messages.proofs.look.Tie as tie
+use Rattle.exchange.specs.Laws.Judged.{by-tests}
+use Rattle.exchange.specs.Look.{oldest}
+use Rattle.exchange.proofs.look.Statement.{statement}
+use Rattle.exchange.proofs.look.Tie as tie
 
 -- the state lent, and the record
 abbrev lent : tie.After-look-checked → State

@@ -1,13 +1,13 @@
--- `messages::deliver` meets its contract: what `append` leaves is what the definition says, and the count is of that.
+-- `exchange::deliver` meets its contract: what `append` leaves is what the definition says, and the count is of that.
 -- Assumes nothing.
 use mathlib.Core.Path.{ap, _∙_}
 use borrow.Author.Needs.{needs}
 use Rattle.transit.specs.Lists.{tally}
 use Rattle.transit.specs.Message.{between}
 use Rattle.transit.specs.Unread.{Unread, AfterAppend}
-use Rattle.messages.specs.Deliver.{deliver}
-use Rattle.messages.proofs.deliver.Statement.{statement}
-use Rattle.messages.proofs.deliver.Tie as tie
+use Rattle.exchange.specs.Deliver.{deliver}
+use Rattle.exchange.proofs.deliver.Statement.{statement}
+use Rattle.exchange.proofs.deliver.Tie as tie
 
 append-requires : tie.Need-append-requires
 append-requires c κs = search needs

@@ -1,7 +1,7 @@
--- `messages::sender_in` meets its contract: each arm is the case of its variant. Assumes nothing.
+-- `exchange::sender_in` meets its contract: each arm is the case of its variant. Assumes nothing.
 use borrow.Author.Needs.{needs}
-use Rattle.messages.proofs.sender_in.Statement.{statement}
-use Rattle.messages.proofs.sender_in.Tie as tie
+use Rattle.exchange.proofs.sender_in.Statement.{statement}
+use Rattle.exchange.proofs.sender_in.Tie as tie
 
 enum-known-found : tie.Need-enum-known-found
 enum-known-found c = search needs
