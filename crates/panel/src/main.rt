@@ -3,34 +3,6 @@ use broker::state::Broker;
 use libc::STDOUT_FILENO;
 use steps::step;
 
-// start 0 0, start 1 1, call 0 1, route 0 1, send 0 1 500, take 1 0, land 1
-const LOG: [u8; 24] = [
-    1,
-    0,
-    0,
-    1,
-    1,
-    1,
-    2,
-    0,
-    1,
-    3,
-    0,
-    1,
-    4,
-    0,
-    1,
-    244,
-    1,
-    0,
-    0,
-    5,
-    1,
-    0,
-    9,
-    1,
-];
-
 // The answer's number, 0 where the step is accepted, and its first value.
 fn tell(number: u8, value: u32) {
     io::print_decimal(STDOUT_FILENO, number as u64);
@@ -39,12 +11,14 @@ fn tell(number: u8, value: u32) {
     io::write_all(STDOUT_FILENO, b"\n");
 }
 
+// The log has the records start 0 0, start 1 1, call 0 1, route 0 1, send 0 1 500, take 1 0 and land 1.
 fn main() {
-    let log = LOG;
+    let log =
+        b"\x01\x00\x00\x01\x01\x01\x02\x00\x01\x03\x00\x01\x04\x00\x01\xF4\x01\x00\x00\x05\x01\x00\x09\x01";
     let mut broker = Broker::fresh();
     let mut at: usize = 0;
-    while at < 24 {
-        let done = step(broker, &log, at);
+    while at < log.len() {
+        let done = step(broker, log, at);
         let answer = done.answer;
         let values = answer.values();
         tell(answer.number(), values.0);
