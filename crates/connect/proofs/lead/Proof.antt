@@ -1,10 +1,12 @@
 -- `connect::lead` meets its contract: each way is that of the definition. Assumes nothing.
-use mathlib.Core.Path.{_≡_}
+use mathlib.Core.Path.{_≡_, sym, ap, _∙_}
 use borrow.Author.Needs.{needs}
 use Rattle.broker.specs.Connect.{route}
 use Rattle.broker.specs.Names.{sameVmid, isEnded, endpoint, postedTo}
 use Rattle.broker.specs.State.{view, status, request}
+use Rattle.broker.specs.declared.process.Process.{Process}
 use Rattle.broker.specs.declared.process.Status.{Status}
+use Rattle.broker.specs.declared.process.Vmid.{Vmid}
 use Rattle.connect.proofs.lead.Statement.{statement}
 use Rattle.connect.proofs.lead.Tie as tie
 
@@ -18,15 +20,27 @@ callee c = status (view (start c .args .b)) (start c .args .c)
 
 -- whether it has ended
 ended : (c : tie.After-is-ended) → isEnded (callee c) ≡ c .is-ended .result
-ended c = cc
+ended c = sym (c .is-ended .ensures ∙ ap (λ (p : Process). isEnded (p .status)) (c .before .before .before .process-of2 .ensures))
 
 -- its current end
 end : (c : tie.After-is-ended) → c .before .before .endpoint .result ≡ endpoint (callee c)
-end c = cc
+end c = c .before .before .endpoint .ensures ∙ ap (λ (p : Process). endpoint (p .status)) (c .before .before .before .process-of2 .ensures)
 
--- whether the call was posted to it
-posted-there : (c : tie.After-same) → sameVmid (postedTo (request (view (start (c .before .before) .args .b)) (start (c .before .before) .args .a))) (endpoint (callee (c .before .before))) ≡ c .same .result
-posted-there c = cc
+-- the vmid that the call was posted to
+abbrev goal : tie.After-is-ended → Vmid
+goal c = postedTo (request (view (start c .args .b)) (start c .args .a))
+
+posted : (c : tie.After-is-ended) → c .before .posted-to .result ≡ goal c
+posted c = c .before .posted-to .ensures ∙ ap (λ (p : Process). postedTo (p .request)) (c .before .before .before .before .process-of .ensures)
+
+-- whether it is the current end
+posted-there : (c : tie.After-same) → sameVmid (goal (c .before .before)) (endpoint (callee (c .before .before))) ≡ c .same .result
+posted-there c =
+    let asked = c .before .before in
+    sym
+    (c .same .ensures ∙
+    ap (λ (v : Vmid). sameVmid v (asked .before .before .endpoint .result)) (posted asked) ∙
+    ap (λ (v : Vmid). sameVmid (goal asked) v) (end asked))
 
 process-of-requires : tie.Need-process-of-requires
 process-of-requires c κs = search needs
