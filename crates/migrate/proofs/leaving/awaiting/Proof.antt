@@ -10,7 +10,7 @@ set-link-requires : tie.Need-set-link-requires
 set-link-requires c κs = search needs
 
 returns : tie.Need-returns
-returns c = cc
+returns c = rw (c .set-link .ensures, c .before .link-between .ensures)
 
 pub awaiting-spec : {M : Type 1} → statement M
 awaiting-spec = tie.close (tie.spec link-between-requires set-link-requires returns)

@@ -16,7 +16,13 @@ unless-requires-2 : tie.Need-unless-requires-2
 unless-requires-2 c κs = search needs
 
 returns : tie.Need-returns
-returns c = cc
+returns c =
+    rw (
+      c .unless2 .ensures,
+      c .before .is-migrating .ensures,
+      c .before .before .unless .ensures,
+      c .before .before .before .is-ended .ensures,
+    )
 
 pub running-spec : {M : Type 1} → statement M
 running-spec =
