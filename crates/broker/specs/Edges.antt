@@ -10,7 +10,7 @@ use Rattle.broker.specs.Kind
 use Rattle.broker.specs.Names.{isOpenRequest, isRunning, isMigrating, isClosed, isOpen, isMarked}
 use Rattle.broker.specs.Ranks.{rank}
 use Rattle.broker.specs.State.{State, fresh, status, request, connection, backlog}
-use Rattle.broker.specs.Step.{step}
+use Rattle.broker.specs.Step.{Outcome, step}
 
 -- a record that is a whole log, and the number that its step must answer: 0 where it must be accepted
 pub record Try : Type 0 where
@@ -23,12 +23,12 @@ accepts log = record { log = log; answers = 0 }
 abbrev pub refuses : List ℕ → ℕ → Try
 refuses log n = record { log = log; answers = n }
 
--- the steps from a state, one after the other, each answered as it must be, and then the test of the state at the end
-abbrev pub plays : List Try → (State → Bool) → State → Bool
-plays [] test s = test s
-plays (t ∷ ts) test s =
-    let o = step (rank 0) s (t .log) 0 in
-    eqb (number (o .answer)) (t .answers) && plays ts test (o .state)
+-- the steps from a state, one after the other, each answered as it must be, and then the test of the state at the end; `go` is a step
+abbrev pub plays : (State → List ℕ → Outcome) → List Try → (State → Bool) → State → Bool
+plays go [] test s = test s
+plays go (t ∷ ts) test s =
+    let o = go s (t .log) in
+    eqb (number (o .answer)) (t .answers) && plays go ts test (o .state)
 
 -- a case of the table
 pub record Edge : Type 0 where
@@ -36,7 +36,7 @@ pub record Edge : Type 0 where
   pub then : State → Bool
 
 abbrev pub holds : Edge → Bool
-holds e = plays (e .steps) (e .then) fresh
+holds e = plays (λ s log. step (rank 0) s log 0) (e .steps) (e .then) fresh
 
 -- nothing more than the answers
 abbrev pub answered : State → Bool

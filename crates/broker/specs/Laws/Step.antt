@@ -75,18 +75,18 @@ checks-pass-record (c ∷ cs) all s r n e =
     go false e later = later e
 
 -- A step of a sound state goes by the record that it reads.
-step-of-sound : (named : Rank) (s : State) (log : List ℕ) (at : ℕ) → sound s ≡ true → step named s log at ≡ onDecoded named at s (decode log at)
-unfolding step stepSound
+pub step-of-sound : (named : Rank) (s : State) (log : List ℕ) (at : ℕ) → sound s ≡ true → step named s log at ≡ stepSound named s log at
+unfolding step
 step-of-sound named s log at h = rw h
 
 -- A record that passes every check is carried out.
 pub step-accepted : (named : Rank) (s : State) (log : List ℕ) (at : ℕ) (r : Record) (next : ℕ) → sound s ≡ true → decode log at ≡ Whole r next → refusal s r ≡ none → step named s log at ≡ carried (apply named r s) next
-unfolding settle
+unfolding stepSound settle
 step-accepted named s log at r next h d p = step-of-sound named s log at h ∙ rw (d, p)
 
 -- Every step takes one of the two courses.
 pub course : (named : Rank) (s : State) (log : List ℕ) (at : ℕ) → Course named s log at
-unfolding step settle checks refusal
+unfolding step stepSound settle checks refusal
 course named s log at = by-soundness (sound s) refl
   where
     by-check : (r : Record) → sound s ≡ true → decode log at ≡ Whole r (pastRecord log at) → (o : Option Refusal) → refusal s r ≡ o → Course named s log at
