@@ -1,19 +1,23 @@
 -- Worked runs from the fresh state, computed from the definitions: two moves of joined ranks that overlap, with a second list for them;
 -- and a list that leaves a move open. Assumes nothing.
 use mathlib.Core.Path.{_≡_, refl, sym, ap, _∙_}
-use mathlib.Core.Bool.{true, false, not}
+use mathlib.Core.Bool.{Bool, true, false, not, _&&_}
 use mathlib.Core.List.{List, [], _∷_, _++_, map}
 use mathlib.Core.Option.{none}
 use Prim.Native.Nat.{ℕ}
 use lib.ListN.{getD, replicate}
-use Rattle.transit.specs.Message.{placeOrder}
+use Rattle.transit.specs.Laws.Lists.{select-select}
+use Rattle.transit.specs.Lists.{select, every}
+use Rattle.transit.specs.Message.{sameRank, placeOrder}
 use Rattle.transit.specs.declared.Message.{Message}
 use Rattle.transit.specs.declared.Place.the-variants.{SourceChannel, List as EndList}
 use Rattle.transit.specs.declared.Rank.{Rank}
 use Rattle.transit.specs.declared.Selection.the-variants.{Between}
+use Rattle.broker.specs.Checks.{is}
 use Rattle.broker.specs.Kind
 use Rattle.broker.specs.Names.{vmid, isMigrating}
 use Rattle.broker.specs.Ranks.{rank, everyRank}
+use Rattle.broker.specs.Record.{firstRank, secondRank}
 use Rattle.broker.specs.State.{idle, fresh, status, messages}
 use Rattle.broker.specs.declared.process.Process.{Process}
 use Rattle.broker.specs.declared.process.Request.the-variants.{Absent}
@@ -21,8 +25,8 @@ use Rattle.broker.specs.declared.process.Status.{Status}
 use Rattle.broker.specs.declared.process.Status.the-variants.{Running, Migrating}
 use Rattle.broker.specs.declared.record.Record.{Record}
 use Rattle.broker.specs.declared.record.Record.the-variants.{Start, Call, Route, Send, Take, Move, Drain, Land, Part}
+use Rattle.ordering.specs.Account.{Account, account, computed, from-fresh}
 use Rattle.ordering.specs.Claim.{Reading, Entry, after, accepted, everyAccepted, records, sent, taken, unread, noMoveOpen, fiveKinds, unbroken, SecondList}
-use Rattle.ordering.specs.Computed.{computed}
 
 -- what a list comes to: its accepted steps, and the processes and the unread messages in the state that it leaves
 pub record Result : Type 0 where
@@ -30,10 +34,11 @@ pub record Result : Type 0 where
   pub processes : List Process
   pub holds : List Message
 
+abbrev pub brief : Account → Result
+brief t = record { steps = t .steps; processes = t .end .processes; holds = messages (t .end) }
+
 abbrev pub result : List Reading → Result
-result xs =
-    let end = after fresh xs in
-    record { steps = accepted fresh xs; processes = end .processes; holds = messages end }
+result xs = brief (account fresh xs)
 
 -- from a to b: what was taken, what is unread and what was sent; the first two make the third
 pub record Balance (xs : List Reading) (a b : Rank) (t u s : List ℕ) : Type 0 where
@@ -50,6 +55,40 @@ balance xs r e a b t u s et eu es sum =
       unread-is = ap (λ (q : Result). map (λ (m : Message). m .value) (placeOrder (Between a b) (q .holds))) e ∙ eu;
       sent-is = ap (λ (q : Result). sent a b (q .steps)) e ∙ es;
       adds-up = sum;
+    }
+
+-- What is taken depends on the takes alone.
+abbrev isTaking : Entry → Bool
+isTaking e = is (Kind.take ∷ []) (e .read)
+
+abbrev fromRank : Rank → Entry → Bool
+fromRank a e = every (λ r. sameRank r a) (secondRank (e .read))
+
+abbrev byRank : Rank → Entry → Bool
+byRank b e = sameRank (firstRank (e .read)) b
+
+taken-of-takes : (a b : Rank) (es : List Entry) → map (λ (e : Entry). e .v1) (select (byRank b) (select (fromRank a) (select isTaking es))) ≡ taken a b es
+taken-of-takes a b es =
+    ap
+    (map (λ (e : Entry). e .v1))
+    (ap (select (byRank b)) (select-select isTaking (fromRank a) es) ∙ select-select (λ (e : Entry). isTaking e && fromRank a e) (byRank b) es)
+
+-- So is a second list, from its own result and the first one's.
+second : (xs ys : List Reading) (r q : Result) → result xs ≡ r → result ys ≡ q → everyAccepted fresh ys ≡ true → unbroken none (records (q .steps)) ≡ true → fiveKinds (q .steps) ≡ fiveKinds (r .steps) → select isTaking (q .steps) ≡ select isTaking (r .steps) → q .holds ≡ r .holds → q .processes ≡ r .processes → SecondList xs
+second xs ys r q there here all moves five took holds processes =
+    let same-holds = ap (λ (p : Result). p .holds) here ∙ holds ∙ sym (ap (λ (p : Result). p .holds) there) in
+    let same-values : (a b : Rank) → taken a b (q .steps) ≡ taken a b (r .steps) = λ a b. rw (← taken-of-takes a b (q .steps), took) (taken-of-takes a b (r .steps)) in
+    let same-processes = ap (λ (p : Result). p .processes) here ∙ processes ∙ sym (ap (λ (p : Result). p .processes) there) in
+    record {
+      list = ys;
+      all-accepted = all;
+      moves-unbroken = ap (λ (p : Result). unbroken none (records (p .steps))) here ∙ moves;
+      same-steps =
+          ap (λ (p : Result). fiveKinds (p .steps)) here ∙ five ∙ sym (ap (λ (p : Result). fiveKinds (p .steps)) there);
+      same-taken =
+          λ a b. ap (λ (p : Result). taken a b (p .steps)) here ∙ same-values a b ∙ sym (ap (λ (p : Result). taken a b (p .steps)) there);
+      same-unread = λ a b ha hb. ap (λ (ms : List Message). map (λ (m : Message). m .value) (placeOrder (Between a b) ms)) same-holds;
+      same-status = λ r hr. ap (λ (ps : List Process). getD ps (r .0) idle .status) same-processes;
     }
 
 -- a record that is a whole log; an accepted record with its v1; and a process with no call
@@ -118,7 +157,7 @@ landed es =
 
 pub overlapping-comes-to : result overlapping ≡ landed overlapping-steps
 unfolding computed
-overlapping-comes-to = refl
+overlapping-comes-to = ap brief (from-fresh overlapping)
 
 pub overlapping-there : Balance overlapping (rank 0) (rank 1) (10 ∷ []) [] (10 ∷ [])
 overlapping-there =
@@ -180,28 +219,28 @@ apart-steps =
 
 pub apart-comes-to : result apart ≡ landed apart-steps
 unfolding computed
-apart-comes-to = refl
+apart-comes-to = ap brief (from-fresh apart)
 
 pub apart-accepted : everyAccepted fresh apart ≡ true
 unfolding computed
-apart-accepted = refl
+apart-accepted = ap (λ (t : Account). t .all) (from-fresh apart)
 
 -- Each part of what the second half claims, computed.
 pub overlapping-second : SecondList overlapping
 overlapping-second =
-    let here : accepted fresh apart ≡ apart-steps = ap (λ (r : Result). r .steps) apart-comes-to in
-    let there : accepted fresh overlapping ≡ overlapping-steps = ap (λ (r : Result). r .steps) overlapping-comes-to in
-    let same-holds = ap (λ (r : Result). r .holds) apart-comes-to ∙ sym (ap (λ (r : Result). r .holds) overlapping-comes-to) in
-    let same-processes = ap (λ (r : Result). r .processes) apart-comes-to ∙ sym (ap (λ (r : Result). r .processes) overlapping-comes-to) in
-    record {
-      list = apart;
-      all-accepted = apart-accepted;
-      moves-unbroken = ap (λ (es : List Entry). unbroken none (records es)) here;
-      same-steps = ap fiveKinds here ∙ sym (ap fiveKinds there);
-      same-taken = λ a b. ap (taken a b) here ∙ sym (ap (taken a b) there);
-      same-unread = λ a b ha hb. ap (λ (ms : List Message). map (λ (m : Message). m .value) (placeOrder (Between a b) ms)) same-holds;
-      same-status = λ r hr. ap (λ (ps : List Process). getD ps (r .0) idle .status) same-processes;
-    }
+    second
+    overlapping
+    apart
+    (landed overlapping-steps)
+    (landed apart-steps)
+    overlapping-comes-to
+    apart-comes-to
+    apart-accepted
+    refl
+    refl
+    refl
+    refl
+    refl
 
 -- A list that leaves a move open: rank 1 moves when it has taken one of two messages, and a third follows it on the lane to its mover. An
 -- unknown kind, an empty log, a take of nothing and a landing too early are refused on the way.
@@ -246,7 +285,7 @@ open-move =
 
 pub unlanded-comes-to : result unlanded ≡ open-move
 unfolding computed
-unlanded-comes-to = refl
+unlanded-comes-to = ap brief (from-fresh unlanded)
 
 pub unlanded-there : Balance unlanded (rank 0) (rank 1) (500 ∷ []) (501 ∷ 502 ∷ []) (500 ∷ 501 ∷ 502 ∷ [])
 unlanded-there =

@@ -8,7 +8,7 @@ pub mod Sends
 pub mod Second
 pub mod Ordering
 pub mod Open
-pub mod Computed
+pub mod Account
 pub mod Examples
 pub mod Listing
 pub mod Run

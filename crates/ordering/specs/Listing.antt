@@ -5,24 +5,22 @@ use mathlib.Core.Bool.{cond}
 use mathlib.Core.List.{List, [], _∷_, _++_, map}
 use Prim.Native.Nat.{ℕ, zero, suc}
 use lib.Dec.{eqb}
-use lib.ListN.{getD, replicate}
+use lib.ListN.{replicate}
 use Rattle.transit.specs.Lists.{tally}
 use Rattle.transit.specs.Message.{between, picks}
 use Rattle.transit.specs.declared.Message.{Message}
 use Rattle.transit.specs.declared.Place.{Place}
 use Rattle.transit.specs.declared.Place.the-variants.{SourceList, SourceChannel, List as EndList, Channel}
 use Rattle.transit.specs.declared.Selection.the-variants.{BetweenAt}
-use Rattle.broker.specs.Answer.{number, values}
 use Rattle.broker.specs.Kind
 use Rattle.broker.specs.Names.{vmid}
 use Rattle.broker.specs.Ranks.{rank}
-use Rattle.broker.specs.State.{State, idle, fresh, messages}
-use Rattle.broker.specs.Step.{Outcome}
+use Rattle.broker.specs.State.{idle, fresh, messages}
 use Rattle.broker.specs.declared.process.Status.the-variants.{Running}
 use Rattle.broker.specs.declared.record.Record.the-variants.{Start, Call, Route, Send, Take, Move, Heed, Drain, Land}
-use Rattle.ordering.specs.Claim.{Reading, stepAt, after}
-use Rattle.ordering.specs.Computed.{computed}
-use Rattle.ordering.specs.Examples.{Result, result, Balance, balance, did, process}
+use Rattle.ordering.specs.Account.{Account, printed, nexts, computed, from-fresh}
+use Rattle.ordering.specs.Claim.{Reading, after}
+use Rattle.ordering.specs.Examples.{Result, result, brief, Balance, balance, did, process}
 
 -- "start 0 0, start 1 1, call 0 1, route 0 1, send 0 1 500, move 1 2, send 0 1 501, heed 0 1, call 0 1, route 0 1 twice, send 0 1 502,
 -- land 1, drain 1 0 three times, land 1, take 1 0"
@@ -52,19 +50,6 @@ abbrev pub listing : List Reading
 listing =
     map (λ (n : ℕ). record { log = log; at = n; named = rank 0 })
     (0 ∷ 3 ∷ 6 ∷ 9 ∷ 12 ∷ 19 ∷ 22 ∷ 29 ∷ 32 ∷ 35 ∷ 38 ∷ 41 ∷ 48 ∷ 50 ∷ 53 ∷ 56 ∷ 59 ∷ 61 ∷ [])
-
--- "per record: position, kind (two hexadecimal digits, upper case), number (0 when accepted), v1, v2, v3"
-abbrev pub line : Reading → Outcome → List ℕ
-line x o = x .at ∷ getD (x .log) (x .at) 0 ∷ number (o .answer) ∷ values (o .answer)
-
-abbrev pub printed : State → List Reading → List (List ℕ)
-printed s [] = []
-printed s (x ∷ xs) = line x (stepAt s x) ∷ printed (stepAt s x .state) xs
-
--- the position after each record
-abbrev pub nexts : State → List Reading → List ℕ
-nexts s [] = []
-nexts s (x ∷ xs) = stepAt s x .next ∷ nexts (stepAt s x .state) xs
 
 -- "for each ordered pair with unread messages, ascending by sender and receiver: pair, sender, receiver, counts at places 0 to 3"
 abbrev gather : ℕ → (ℕ → List (List ℕ)) → List (List ℕ)
@@ -100,12 +85,12 @@ pub listing-prints :
     (59 ∷ 0x09 ∷ 0 ∷ 2 ∷ 0 ∷ 0 ∷ []) ∷
     (61 ∷ 0x05 ∷ 0 ∷ 500 ∷ 2 ∷ 0 ∷ []) ∷ []
 unfolding computed
-listing-prints = refl
+listing-prints = ap (λ (t : Account). t .lines) (from-fresh listing)
 
 -- Each position is the one where the record before ended.
 pub listing-goes-on : nexts fresh listing ≡ 3 ∷ 6 ∷ 9 ∷ 12 ∷ 19 ∷ 22 ∷ 29 ∷ 32 ∷ 35 ∷ 38 ∷ 41 ∷ 48 ∷ 50 ∷ 53 ∷ 56 ∷ 59 ∷ 61 ∷ 64 ∷ []
 unfolding computed
-listing-goes-on = refl
+listing-goes-on = ap (λ (t : Account). t .positions) (from-fresh listing)
 
 -- What the list comes to: rank 1 runs where it moved to, and the two messages that it has not taken are in its list and on its lane.
 abbrev listing-result : Result
@@ -137,7 +122,7 @@ listing-result =
 
 pub listing-comes-to : result listing ≡ listing-result
 unfolding computed
-listing-comes-to = refl
+listing-comes-to = ap brief (from-fresh listing)
 
 pub listing-pairs : pairLines (messages (after fresh listing)) ≡ (0 ∷ 1 ∷ 0 ∷ 0 ∷ 1 ∷ 1 ∷ []) ∷ []
 listing-pairs = ap (λ (r : Result). pairLines (r .holds)) listing-comes-to

@@ -1,0 +1,90 @@
+-- All that a list of steps comes to, field by field: what a worked run is computed by. Assumes nothing.
+use mathlib.Core.Path.{_≡_, refl, ap, _∙_}
+use mathlib.Core.Bool.{Bool, true, _&&_}
+use mathlib.Core.List.{List, [], _∷_, _++_}
+use Prim.Native.Nat.{ℕ}
+use lib.ListN.{getD}
+use Rattle.broker.specs.Answer.{number, values}
+use Rattle.broker.specs.Checks
+use Rattle.broker.specs.Connect
+use Rattle.broker.specs.Laws.Step.{step-of-sound, step-keeps-sound}
+use Rattle.broker.specs.Life
+use Rattle.broker.specs.Messages
+use Rattle.broker.specs.Migrate
+use Rattle.broker.specs.Ranks.{everyRank, everyPair, countRanks, eachRank}
+use Rattle.broker.specs.Record.{decode}
+use Rattle.broker.specs.Sound.{sound}
+use Rattle.broker.specs.State.{State, fresh}
+use Rattle.broker.specs.Step.{Outcome, stepSound, settle, apply}
+use Rattle.ordering.specs.Claim.{Reading, Entry, stepAt, after, isAccepted, everyAccepted, entryOf, accepted}
+use Rattle.ordering.specs.Runs.{fresh-sound}
+
+-- "per record: position, kind (two hexadecimal digits, upper case), number (0 when accepted), v1, v2, v3"
+abbrev pub line : Reading → Outcome → List ℕ
+line x o = x .at ∷ getD (x .log) (x .at) 0 ∷ number (o .answer) ∷ values (o .answer)
+
+abbrev pub printed : State → List Reading → List (List ℕ)
+printed s [] = []
+printed s (x ∷ xs) = line x (stepAt s x) ∷ printed (stepAt s x .state) xs
+
+-- the position after each record
+abbrev pub nexts : State → List Reading → List ℕ
+nexts s [] = []
+nexts s (x ∷ xs) = stepAt s x .next ∷ nexts (stepAt s x .state) xs
+
+-- the accepted steps, whether all are, a line for each step, the positions after them, and the state at the end
+pub record Account : Type 0 where
+  pub steps : List Entry
+  pub all : Bool
+  pub lines : List (List ℕ)
+  pub positions : List ℕ
+  pub end : State
+
+abbrev pub account : State → List Reading → Account
+account s xs =
+    record {
+      steps = accepted s xs;
+      all = everyAccepted s xs;
+      lines = printed s xs;
+      positions = nexts s xs;
+      end = after s xs;
+    }
+
+-- a step ahead of an account
+abbrev ahead : Reading → Outcome → Account → Account
+ahead x o t =
+    record {
+      steps = entryOf (o .answer) (decode (x .log) (x .at)) ++ t .steps;
+      all = isAccepted (o .answer) && t .all;
+      lines = line x o ∷ t .lines;
+      positions = o .next ∷ t .positions;
+      end = t .end;
+    }
+
+-- the same in one pass, without the test of soundness
+abbrev soundStepAt : State → Reading → Outcome
+soundStepAt s x = stepSound (x .named) s (x .log) (x .at)
+
+abbrev soundAccount : State → List Reading → Account
+soundAccount s [] = account s []
+soundAccount s (x ∷ xs) = ahead x (soundStepAt s x) (soundAccount (soundStepAt s x .state) xs)
+
+-- From a sound state that test may be left out: every step passes it.
+sound-account : (s : State) (xs : List Reading) → sound s ≡ true → account s xs ≡ soundAccount s xs
+sound-account s [] h = refl
+sound-account s (x ∷ xs) h =
+    ap
+    (ahead x (stepAt s x))
+    (sound-account (stepAt s x .state) xs (step-keeps-sound (x .named) s (x .log) (x .at) h)) ∙
+    ap
+    (λ (o : Outcome). ahead x o (soundAccount (o .state) xs))
+    (step-of-sound (x .named) s (x .log) (x .at) h)
+
+-- the account from the fresh state; where this is opened, all that a step computes with is open
+unfoldable pub computed : List Reading → Account
+unfolding stepSound settle apply decode Checks.refusal Checks.checks Checks.rankRange Checks.hostRange Checks.rankTwice Checks.notStarted Checks.alreadyStarted Checks.hasEnded Checks.firstMigrating Checks.notMigrating Checks.connected Checks.requestOpen Checks.noRequest Checks.notConnected Checks.peerMigrating Checks.noNotice Checks.sameHost Checks.backlogLeft Checks.noBacklog Checks.nothingToDrain Checks.nothingUnread Checks.unreadLeft Checks.full Checks.numbersSpent Life.announced Life.start Life.end Connect.call Connect.route Connect.part Messages.send Messages.take Messages.look Migrate.leaveAll Migrate.move Migrate.heed Migrate.drain Migrate.land everyRank everyPair countRanks eachRank
+computed xs = soundAccount fresh xs
+
+pub from-fresh : (xs : List Reading) → account fresh xs ≡ computed xs
+unfolding computed
+from-fresh xs = sound-account fresh xs fresh-sound
