@@ -1,4 +1,5 @@
 -- Laws of the definitions that the contracts cite.
+pub mod Counts
 pub mod Settled
 pub mod Unread
 pub mod Verdict

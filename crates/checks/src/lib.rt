@@ -3,6 +3,7 @@
 use broker::answer::Answer;
 use broker::state::Broker;
 
+pub mod backlog;
 pub mod read;
 pub mod unread;
 pub mod verdict;

@@ -112,7 +112,6 @@ fn route_checked(a: Rank, c: Rank, first: Process, second: Process) -> Verdict
 
 // Both lines between `a` and `c`.
 fn connect_both(links: [Link; 256], a: Rank, c: Rank, line: Connection) -> [Link; 256]
-    requires { ⌜ (a .0 < 16) × (c .0 < 16) ⌝ }
     ensures { λ out. ⌜ out ≡ connect c a line (connect a c line links) ⌝ }
 {
     let there = connect(links, a, c, line);
@@ -121,7 +120,6 @@ fn connect_both(links: [Link; 256], a: Rank, c: Rank, line: Connection) -> [Link
 
 // `a`'s call closes if it goes to `c`.
 fn withdraw(processes: [Process; 16], a: Rank, c: Rank) -> [Process; 16]
-    requires { ⌜ a .0 < 16 ⌝ }
     ensures { λ out. ⌜ out ≡ withdrawn a c processes ⌝ }
 {
     let p = process_of(processes, a);
@@ -135,7 +133,6 @@ fn withdraw(processes: [Process; 16], a: Rank, c: Rank) -> [Process; 16]
 
 // The rank called has ended: the call closes.
 fn close_call(b: Broker, a: Rank) -> Settled
-    requires { ⌜ a .0 < 16 ⌝ }
     ensures { λ out. ⌜ settled out ≡ accepted (done (withRequest a Request.Absent (view b)) 2 0 0) ⌝ }
 {
     let processes = b.processes;
@@ -150,7 +147,6 @@ fn close_call(b: Broker, a: Rank) -> Settled
 
 // The call was posted to the current end: a plain line stands both ways, and calls between the two close.
 fn route_there(b: Broker, a: Rank, c: Rank, v: Vmid) -> Settled
-    requires { ⌜ (a .0 < 16) × (c .0 < 16) ⌝ }
     ensures { λ out. ⌜ settled out ≡ accepted (routeThere a c v (view b)) ⌝ }
 {
     let processes = b.processes;
@@ -235,7 +231,6 @@ fn part_checked(a: Rank, c: Rank, first: Process, second: Process, link: Link) -
 
 // The channels between `a` and `c` are read into the lists, and their lines close.
 fn separate(b: Broker, a: Rank, c: Rank) -> Settled
-    requires { ⌜ (a .0 < 16) × (c .0 < 16) ⌝ }
     ensures { λ out. ⌜ settled out ≡ accepted (part a c (view b)) ⌝ }
 {
     let links = b.links;

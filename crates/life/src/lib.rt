@@ -140,7 +140,6 @@ fn end_checked(r: Rank, p: Process, alone: bool, unread: usize) -> Verdict
 
 // `r` is ended, and keeps its last vmid.
 fn stop(b: Broker, r: Rank) -> Settled
-    requires { ⌜ r .0 < 16 ⌝ }
     ensures { λ out. ⌜ settled out ≡ accepted (end r (view b)) ⌝ }
 {
     let processes = b.processes;

@@ -34,7 +34,7 @@ pub fn settle(b: Broker, read: Record) -> Settled
         Record::Route(a, c) => connect::route(b, a, c),
         Record::Send(a, c, value) => exchange::send(b, a, c, value),
         Record::Take(c, a) => exchange::take(b, c, a),
-        Record::Move(r, host) => migrate::move_to(b, r, host),
+        Record::Move(r, host) => depart::move_to(b, r, host),
         Record::Heed(c, r) => migrate::heed(b, c, r),
         Record::Drain(r, p) => migrate::drain(b, r, p),
         Record::Land(r) => migrate::land(b, r),

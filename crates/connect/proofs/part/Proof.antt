@@ -3,13 +3,12 @@
 use mathlib.Core.Path.{_≡_, _∙_}
 use borrow.Author.Needs.{needs}
 use Rattle.broker.specs.Checks.{refusal}
-use Rattle.broker.specs.Laws.Accepted.{part-fits}
 use Rattle.broker.specs.Ranks.{rank}
 use Rattle.broker.specs.State.{State, view}
 use Rattle.broker.specs.Step.{apply}
 use Rattle.broker.specs.declared.record.Record.the-variants.{Part}
 use Rattle.broker.specs.declared.record.Record.{Record}
-use Rattle.checks.specs.Laws.Settled.{refused-by, accepted-by, passes-by}
+use Rattle.checks.specs.Laws.Settled.{refused-by, accepted-by}
 use Rattle.checks.specs.Verdict.{verdictOf}
 use Rattle.connect.specs.Laws.Judged.{by-tests}
 use Rattle.connect.proofs.part.Statement.{statement}
@@ -55,10 +54,7 @@ enum-told : tie.Need-enum-told
 enum-told c = search needs
 
 separate-requires : tie.Need-separate-requires
-separate-requires c κs =
-    let v = c .before .before in
-    let two = part-fits (lent v) _ _ (passes-by (record-of v) (lent v) _ (checked v) (c .enum-told .given .1)) .two in
-    (two .first, two .second)
+separate-requires c κs = search needs
 
 returns : tie.Need-returns
 returns c =

@@ -3,13 +3,12 @@
 use mathlib.Core.Path.{_≡_, _∙_}
 use borrow.Author.Needs.{needs}
 use Rattle.broker.specs.Checks.{refusal}
-use Rattle.broker.specs.Laws.Accepted.{end-fits}
 use Rattle.broker.specs.Ranks.{rank}
 use Rattle.broker.specs.State.{State, view}
 use Rattle.broker.specs.Step.{apply}
 use Rattle.broker.specs.declared.record.Record.the-variants.{End}
 use Rattle.broker.specs.declared.record.Record.{Record}
-use Rattle.checks.specs.Laws.Settled.{refused-by, accepted-by, passes-by}
+use Rattle.checks.specs.Laws.Settled.{refused-by, accepted-by}
 use Rattle.checks.specs.Verdict.{verdictOf}
 use Rattle.life.specs.Laws.Judged.{by-tests}
 use Rattle.life.proofs.end.Statement.{statement}
@@ -53,9 +52,7 @@ enum-told : tie.Need-enum-told
 enum-told c = search needs
 
 stop-requires : tie.Need-stop-requires
-stop-requires c κs =
-    let v = c .before .before in
-    end-fits (lent v) _ (passes-by (record-of v) (lent v) _ (checked v) (c .enum-told .given .1)) .one .in-range
+stop-requires c κs = search needs
 
 returns : tie.Need-returns
 returns c =

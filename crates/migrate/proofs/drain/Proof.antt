@@ -3,14 +3,13 @@
 use mathlib.Core.Path.{_≡_, _∙_}
 use borrow.Author.Needs.{needs}
 use Rattle.broker.specs.Checks.{refusal}
-use Rattle.broker.specs.Laws.Accepted.{drain-fits}
 use Rattle.broker.specs.Migrate.{drain}
 use Rattle.broker.specs.Ranks.{rank}
 use Rattle.broker.specs.State.{State, view}
 use Rattle.broker.specs.Step.{apply}
 use Rattle.broker.specs.declared.record.Record.{Record}
 use Rattle.broker.specs.declared.record.Record.the-variants.{Drain}
-use Rattle.checks.specs.Laws.Settled.{refused-by, accepted-by, passes-by}
+use Rattle.checks.specs.Laws.Settled.{refused-by, accepted-by}
 use Rattle.checks.specs.Verdict.{verdictOf}
 use Rattle.migrate.specs.Laws.Judged.{by-tests}
 use Rattle.migrate.proofs.drain.Statement.{statement}
@@ -60,10 +59,7 @@ enum-told : tie.Need-enum-told
 enum-told c = search needs
 
 read-channel-requires : tie.Need-read-channel-requires
-read-channel-requires c κs =
-    let v = c .before .before in
-    let fits = drain-fits (lent v) _ _ (passes-by (record-of v) (lent v) _ (checked v) (c .enum-told .given .1)) in
-    (fits .two .first, fits .two .second)
+read-channel-requires c κs = search needs
 
 returns : tie.Need-returns
 returns c =

@@ -3,13 +3,12 @@
 use mathlib.Core.Path.{_≡_, _∙_}
 use borrow.Author.Needs.{needs}
 use Rattle.broker.specs.Checks.{refusal}
-use Rattle.broker.specs.Laws.Accepted.{land-fits}
 use Rattle.broker.specs.Ranks.{rank}
 use Rattle.broker.specs.State.{State, view}
 use Rattle.broker.specs.Step.{apply}
 use Rattle.broker.specs.declared.record.Record.{Record}
 use Rattle.broker.specs.declared.record.Record.the-variants.{Land}
-use Rattle.checks.specs.Laws.Settled.{refused-by, accepted-by, passes-by}
+use Rattle.checks.specs.Laws.Settled.{refused-by, accepted-by}
 use Rattle.checks.specs.Verdict.{verdictOf}
 use Rattle.migrate.specs.Laws.Judged.{by-tests}
 use Rattle.migrate.proofs.land.Statement.{statement}
@@ -51,10 +50,7 @@ enum-told : tie.Need-enum-told
 enum-told c = search needs
 
 arrive-requires : tie.Need-arrive-requires
-arrive-requires c κs =
-    let v = c .before .before in
-    let fits = land-fits (lent v) _ (passes-by (record-of v) (lent v) _ (checked v) (c .enum-told .given .1)) in
-    fits .one .in-range
+arrive-requires c κs = search needs
 
 returns : tie.Need-returns
 returns c =

@@ -1,8 +1,8 @@
--- `migrate::depart` meets its contract: each part of the state is the definition's. Assumes nothing.
+-- `depart::depart` meets its contract: each part of the state is the definition's. Assumes nothing.
 use borrow.Author.Needs.{needs}
 use Rattle.broker.specs.Migrate.{move}
-use Rattle.migrate.proofs.depart.Statement.{statement}
-use Rattle.migrate.proofs.depart.Tie as tie
+use Rattle.depart.proofs.depart.Statement.{statement}
+use Rattle.depart.proofs.depart.Tie as tie
 
 drawn-on-requires : tie.Need-drawn-on-requires
 drawn-on-requires c κs = search needs

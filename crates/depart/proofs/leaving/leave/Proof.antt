@@ -1,7 +1,7 @@
--- `migrate::leaving::leave` meets its contract: each arm is the case of its line. Assumes nothing.
+-- `depart::leaving::leave` meets its contract: each arm is the case of its line. Assumes nothing.
 use borrow.Author.Needs.{needs}
-use Rattle.migrate.proofs.leaving.leave.Statement.{statement}
-use Rattle.migrate.proofs.leaving.leave.Tie as tie
+use Rattle.depart.proofs.leaving.leave.Statement.{statement}
+use Rattle.depart.proofs.leaving.leave.Tie as tie
 
 link-between-requires : tie.Need-link-between-requires
 link-between-requires c κs = search needs

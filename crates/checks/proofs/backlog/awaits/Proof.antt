@@ -1,4 +1,4 @@
--- `migrate::leaving::awaits` meets its contract. The loop's invariant: `n` is the count of the awaits of the ranks below `i`.
+-- `checks::backlog::awaits` meets its contract. The loop's invariant: `n` is the count of the awaits of the ranks below `i`.
 -- Assumes nothing.
 use mathlib.Core.Bool.{Bool, true, false, not}
 use mathlib.Core.Logic.{⊎-elim}
@@ -9,9 +9,9 @@ use borrow.Author.Needs.{needs}
 use Rattle.broker.specs.Names.{isClear}
 use Rattle.broker.specs.Ranks.{rank, countBelow, countRanks}
 use Rattle.broker.specs.State.{linkAt}
-use Rattle.migrate.specs.Laws.Counts.{count-passed, count-failed}
-use Rattle.migrate.proofs.leaving.awaits.Statement.{statement}
-use Rattle.migrate.proofs.leaving.awaits.Tie as tie
+use Rattle.checks.specs.Laws.Counts.{count-passed, count-failed}
+use Rattle.checks.proofs.backlog.awaits.Statement.{statement}
+use Rattle.checks.proofs.backlog.awaits.Tie as tie
 
 abbrev Inv-loop : tie.InvT-loop
 Inv-loop links r n₀ i₀ n i = (i ≤ 16) × (n ≤ i) × (n ≡ countBelow i (λ k. not (isClear (linkAt links r (rank k) .backlog))))

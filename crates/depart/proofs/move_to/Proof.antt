@@ -1,4 +1,4 @@
--- `migrate::move_to` meets its contract: the checks give the refusal of the definition, and where none applies the rank migrates.
+-- `depart::move_to` meets its contract: the checks give the refusal of the definition, and where none applies the rank migrates.
 -- Assumes nothing.
 use mathlib.Core.Path.{_≡_, _∙_}
 use borrow.Author.Needs.{needs}
@@ -11,9 +11,9 @@ use Rattle.broker.specs.declared.record.Record.{Record}
 use Rattle.broker.specs.declared.record.Record.the-variants.{Move}
 use Rattle.checks.specs.Laws.Settled.{refused-by, accepted-by, passes-by}
 use Rattle.checks.specs.Verdict.{verdictOf}
-use Rattle.migrate.specs.Laws.Judged.{by-tests}
-use Rattle.migrate.proofs.move_to.Statement.{statement}
-use Rattle.migrate.proofs.move_to.Tie as tie
+use Rattle.depart.specs.Laws.Judged.{by-tests}
+use Rattle.depart.proofs.move_to.Statement.{statement}
+use Rattle.depart.proofs.move_to.Tie as tie
 
 -- the state lent, and the record
 abbrev lent : tie.After-move-checked → State
@@ -29,7 +29,7 @@ checked : (c : tie.After-move-checked) → verdictOf (c .move-checked .result) �
 checked c =
     let args = c .before .before .before .before .before .args in
     rw (
-      by-tests (lent c) .move (args .r) (args .host),
+      by-tests (lent c) (args .r) (args .host),
       c .move-checked .ensures,
       c .before .drawn-on .ensures,
       c .before .before .process-of .ensures,
@@ -54,7 +54,7 @@ depart-requires : tie.Need-depart-requires
 depart-requires c κs =
     let v = c .before .before in
     let fits = move-fits (lent v) _ _ (passes-by (record-of v) (lent v) _ (checked v) (c .enum-told .given .1)) in
-    (fits .one .in-range, (fits .room, fits .host))
+    (fits .room, fits .host)
 
 returns : tie.Need-returns
 returns c =

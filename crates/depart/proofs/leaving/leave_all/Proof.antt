@@ -1,4 +1,4 @@
--- `migrate::leaving::leave_all` meets its contract. The loop's invariant: the ranks below `i` are left, and no other.
+-- `depart::leaving::leave_all` meets its contract. The loop's invariant: the ranks below `i` are left, and no other.
 -- Assumes nothing.
 use mathlib.Core.Path.{_≡_}
 use Prim.Native.Nat.{_≤_, _-_}
@@ -7,8 +7,8 @@ use native.Mathlib.Omega.{arith}
 use borrow.Author.Needs.{needs}
 use Rattle.broker.specs.Migrate.{leave, leaveAll}
 use Rattle.broker.specs.Ranks.{rank, eachBelow, eachRank}
-use Rattle.migrate.proofs.leaving.leave_all.Statement.{statement}
-use Rattle.migrate.proofs.leaving.leave_all.Tie as tie
+use Rattle.depart.proofs.leaving.leave_all.Statement.{statement}
+use Rattle.depart.proofs.leaving.leave_all.Tie as tie
 
 abbrev Inv-loop : tie.InvT-loop
 Inv-loop r next₀ i₀ next i = (i ≤ 16) × (next ≡ eachBelow i (λ k. leave r (rank k)) next₀)

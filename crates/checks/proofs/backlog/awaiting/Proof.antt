@@ -1,7 +1,7 @@
--- `migrate::leaving::awaiting` meets its contract. Assumes nothing.
+-- `checks::backlog::awaiting` meets its contract. Assumes nothing.
 use borrow.Author.Needs.{needs}
-use Rattle.migrate.proofs.leaving.awaiting.Statement.{statement}
-use Rattle.migrate.proofs.leaving.awaiting.Tie as tie
+use Rattle.checks.proofs.backlog.awaiting.Statement.{statement}
+use Rattle.checks.proofs.backlog.awaiting.Tie as tie
 
 link-between-requires : tie.Need-link-between-requires
 link-between-requires c κs = search needs

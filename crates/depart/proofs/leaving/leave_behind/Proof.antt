@@ -1,11 +1,11 @@
--- `migrate::leaving::leave_behind` meets its contract: two changes of places, one after the other. Assumes nothing.
+-- `depart::leaving::leave_behind` meets its contract: two changes of places, one after the other. Assumes nothing.
 use mathlib.Core.Path.{ap, _∙_}
 use borrow.Author.Needs.{needs}
 use Rattle.transit.specs.Unread.{relabelAll}
 use Rattle.transit.specs.declared.Place.the-variants.{SourceChannel, Channel}
 use Rattle.transit.specs.declared.Selection.the-variants.{ToAt}
-use Rattle.migrate.proofs.leaving.leave_behind.Statement.{statement}
-use Rattle.migrate.proofs.leaving.leave_behind.Tie as tie
+use Rattle.depart.proofs.leaving.leave_behind.Statement.{statement}
+use Rattle.depart.proofs.leaving.leave_behind.Tie as tie
 
 relabel-requires : tie.Need-relabel-requires
 relabel-requires c κs = search needs

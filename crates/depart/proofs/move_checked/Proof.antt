@@ -1,7 +1,7 @@
--- `migrate::move_checked` meets its contract: each check is its test. Assumes nothing.
+-- `depart::move_checked` meets its contract: each check is its test. Assumes nothing.
 use borrow.Author.Needs.{needs}
-use Rattle.migrate.proofs.move_checked.Statement.{statement}
-use Rattle.migrate.proofs.move_checked.Tie as tie
+use Rattle.depart.proofs.move_checked.Statement.{statement}
+use Rattle.depart.proofs.move_checked.Tie as tie
 
 endpoint-requires : tie.Need-endpoint-requires
 endpoint-requires c κs = search needs

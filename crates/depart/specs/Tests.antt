@@ -1,0 +1,22 @@
+-- Move: its checks, as tests of the parts of the state that they speak of, in the order of their numbers.
+-- Paper 01, "Where each step is checked". Assumes nothing.
+use mathlib.Core.Bool.{not}
+use mathlib.Core.List.{List, [], _∷_, _++_}
+use Prim.Native.Nat.{ℕ}
+use lib.Dec.{eqb, leb, ltb}
+use Rattle.transit.specs.declared.Rank.{Rank}
+use Rattle.broker.specs.Names.{hosts, numbers, isStarted, endpoint, isOpenRequest}
+use Rattle.broker.specs.Ranks.{isRank}
+use Rattle.broker.specs.declared.answer.Refusal.the-variants.{RankRange, HostRange, NotStarted, RequestOpen, SameHost, NumbersSpent}
+use Rattle.broker.specs.declared.process.Process.{Process}
+use Rattle.checks.specs.Tests.{runningTests}
+use Rattle.checks.specs.Verdict.{Test, test}
+
+-- of the rank's process, and of how many numbers are drawn on the host
+abbrev pub moveTests : Rank → ℕ → Process → ℕ → List Test
+moveTests r h p n =
+    (test (not (isRank r)) RankRange ∷ test (not (ltb h hosts)) HostRange ∷ test (not (isStarted (p .status))) NotStarted ∷ []) ++
+    runningTests (p .status) ++
+    (test (isOpenRequest (p .request)) RequestOpen ∷
+    test (eqb h (endpoint (p .status) .0)) SameHost ∷
+    test (leb numbers n) NumbersSpent ∷ [])
