@@ -1,28 +1,23 @@
--- Laws of a step: its outcome by what stands at the position, that a look names a rank with something unread, and what a refusal leaves.
+-- Laws of a step: its outcome by what stands at the position, and that a look names a rank with something unread.
 -- Assumes nothing.
-use mathlib.Core.Path.{_≡_, refl, sym, ap, _∙_}
+use mathlib.Core.Path.{_≡_, refl}
 use mathlib.Core.Bool.{true, false}
 use mathlib.Core.List.{List}
 use mathlib.Core.Option.{Option, none, some}
 use Prim.Native.Nat.{ℕ}
-use native.Mathlib.Omega.{arith}
 use Rattle.broker.specs.Checks.{refusal}
-use Rattle.broker.specs.Laws.Step.{step-refused}
 use Rattle.broker.specs.Record.{decode}
 use Rattle.broker.specs.Sound.{sound}
 use Rattle.broker.specs.State.{State}
 use Rattle.broker.specs.Step.{Settlement, Outcome, Stepped, settle, stepSound, step, refused, nameFits, nameFitsRecord}
-use Rattle.broker.specs.declared.answer.Answer.{Answer}
-use Rattle.broker.specs.declared.answer.Answer.the-variants.{Accepted, Refused}
 use Rattle.broker.specs.declared.answer.Refusal.{Refusal}
 use Rattle.broker.specs.declared.answer.Refusal.the-variants.{Unsound, UnknownKind, CutShort}
 use Rattle.broker.specs.declared.record.Decoded.{Decoded}
 use Rattle.broker.specs.declared.record.Decoded.the-variants.{Whole, Unknown, Cut}
 use Rattle.broker.specs.declared.record.Record.{Record}
 use Rattle.broker.specs.declared.record.Record.the-variants.{Start, Call, Route, Send, Take, Move, Heed, Drain, Land, Part, End, Look}
-use Rattle.broker.specs.declared.state.Broker.{Broker}
 use Rattle.exchange.specs.Laws.Look.{accepted-look-has-unread}
-use Rattle.steps.specs.Outcome.{nameFor, nameAt, RefusalKeeps}
+use Rattle.steps.specs.Outcome.{nameFor, nameAt}
 
 module _ (s : State) (log : List ℕ) (at : ℕ) where
   -- a whole record is settled, and the position passes it
@@ -70,13 +65,3 @@ pub unsound-step : (s : State) (log : List ℕ) (at : ℕ) → sound s ≡ false
 unfolding step
 unsound-step s log at h =
     record { named = nameAt s (decode log at); fits = name-fits s (decode log at); same = rw h }
-
--- an accepted answer is no refusal
-pub accepted-is-no-refusal : (answer : Answer) (v1 v2 v3 : ℕ) (before after : Broker) → answer ≡ Accepted v1 v2 v3 → RefusalKeeps answer before after
-accepted-is-no-refusal answer v1 v2 v3 before after e = λ n r. let z : _≡_ {A = ℕ} 0 1 = cc in absurd (omega arith)
-
--- a refused step's outcome is one with the state as it was
-pub refused-step : (s : State) (log : List ℕ) (at : ℕ) (o : Outcome) (n : Refusal) → o .answer ≡ Refused n → Stepped s log at o → Stepped s log at (record { answer = o .answer; next = o .next; state = s })
-refused-step s log at o n e h =
-    let kept : o .state ≡ s = ap (λ (x : Outcome). x .state) (h .same) ∙ step-refused (h .named) s log at n (sym (ap (λ (x : Outcome). x .answer) (h .same)) ∙ e) .state-kept in
-    record { named = h .named; fits = h .fits; same = ap (λ (x : State). record { answer = o .answer; next = o .next; state = x }) (sym kept) ∙ h .same }

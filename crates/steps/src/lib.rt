@@ -15,7 +15,6 @@ use checks::Settled;
 use soundness::is_sound;
 
 pub mod decode;
-pub mod lent;
 
 // All of a step's outcome: the state afterwards, the answer, and the next position.
 pub struct Outcome {

@@ -1,4 +1,4 @@
--- `steps::lent::step_lent` meets its contract: a walk of its MIR, by hand (`Walk.antt`). All that the proof knows of `step_or_keep`, which it calls, is that it meets its contract.
+-- `lent::step_lent` meets its contract: a walk of its MIR, by hand (`Walk.antt`). All that the proof knows of `step_or_keep`, which it calls, is that it meets its contract.
 -- Assumes nothing.
 mod Walk
 use mathlib.Core.Path.{_≡_, refl, sym, ap, subst}
@@ -45,22 +45,23 @@ use Rattle.broker.specs.declared.state.Broker.{Broker}
 use Rattle.broker.proofs.answer.Answer.Laws as A′
 use Rattle.broker.proofs.state.Broker as B
 use Rattle.broker.proofs.state.Broker.Laws as B′
-use Rattle.steps.specs.Outcome.{outcome, RefusalKeeps}
+use Rattle.steps.specs.Outcome.{outcome}
+use Rattle.lent.specs.Reply.{RefusalKeeps}
 use Rattle.steps.specs.declared.Outcome.{Outcome}
-use Rattle.steps.specs.declared.lent.Reply.{Reply}
+use Rattle.lent.specs.declared.Reply.{Reply}
 use Rattle.steps.proofs.Outcome as O
 use Rattle.steps.proofs.Outcome.Laws as O′
-use Rattle.steps.proofs.lent.Reply as R
-use Rattle.steps.proofs.lent.Reply.Laws as R′
-use Rattle.steps.proofs.lent.step_or_keep as inner
-use Rattle.steps.proofs.lent.step_or_keep.Symbol as inner-def
-use Rattle.steps.proofs.lent.step_or_keep.Symbol.{name as #steps·lent·step-or-keep}
-use Rattle.steps.proofs.lent.step_or_keep.Met as inner-thm
-use Rattle.steps.proofs.lent.step_lent.Key.{name as #steps·lent·step-lent}
-use Rattle.steps.proofs.lent.step_lent as lent
-use Rattle.steps.proofs.lent.step_lent.Statement as stated
-use Rattle.steps.proofs.lent.step_lent.Code as code
-use Rattle.steps.proofs.lent.step_lent.Proof.Walk as W′
+use Rattle.lent.proofs.Reply as R
+use Rattle.lent.proofs.Reply.Laws as R′
+use Rattle.lent.proofs.step_or_keep as inner
+use Rattle.lent.proofs.step_or_keep.Symbol as inner-def
+use Rattle.lent.proofs.step_or_keep.Symbol.{name as #lent·step-or-keep}
+use Rattle.lent.proofs.step_or_keep.Met as inner-thm
+use Rattle.lent.proofs.step_lent.Key.{name as #lent·step-lent}
+use Rattle.lent.proofs.step_lent as lent
+use Rattle.lent.proofs.step_lent.Statement as stated
+use Rattle.lent.proofs.step_lent.Code as code
+use Rattle.lent.proofs.step_lent.Proof.Walk as W′
 
 -- the MIR types of the reference, of the log and of an outcome's fields; the function is the one that `Walk.antt` walks
 abbrev τb : Ty
@@ -73,7 +74,7 @@ abbrev τs : Tys
 τs = tcons B′.mir (tcons A′.mir (tcons (tyInt w64) tnil))
 
 abbrev function : Fn
-function = W′.function #steps·lent·step-or-keep R′.mir τb τlog B′.mir (O.struct .name) τs
+function = W′.function #lent·step-or-keep R′.mir τb τlog B′.mir (O.struct .name) τs
 
 code-is : code.function ≡ function
 code-is = refl
@@ -216,11 +217,11 @@ module _ {M : Type 1} (𝓤 : URA M) (H : Heap 𝓤) (A : Atoms 𝓤) (W : Given
       nothing ! $ owned ! usize (Is usize) (uint-makes 𝓤 H A W w64) n _ (refl, fits) $ fjoin ! $ move ! (2 ∷ 0 ∷ []) $ fjoin ! $ move ! (1 ∷ 0 ∷ []) $ fjoin ! $ frame ! $
       owned ! R.the-row (Is R.the-row) (LL.makes R.the-type R′.the-plain 𝓤 H A) (reply r) _ (reply-is r u (c .is)) $ done !
 
-  module _ (C : Calls 𝓤 H) (Λ : Loops 𝓤 H) (fm : FmC 𝓤 H (W .laws) C) (known : Triple 𝓤 (C #steps·lent·step-or-keep) (Inner 𝓤 H A at-mem run)) (log-is : Is (ShrSlice (named 1) κ′ u8) s (v ∷ [])) (fits : n < 2 ^ 64) where
+  module _ (C : Calls 𝓤 H) (Λ : Loops 𝓤 H) (fm : FmC 𝓤 H (W .laws) C) (known : Triple 𝓤 (C #lent·step-or-keep) (Inner 𝓤 H A at-mem run)) (log-is : Is (ShrSlice (named 1) κ′ u8) s (v ∷ [])) (fits : n < 2 ^ 64) where
     runs : ent 𝓤 (⋆ 𝓤 H A (Borrow h (‵ Rest ∷ raw Token ∷ []))) (WpFn 𝓤 H C Λ function (vptr b o ∷ v ∷ vint w64 n ∷ []) Post)
     unfolding made
     runs =
-        W′.walk #steps·lent·step-or-keep R′.mir τb τlog B′.mir (O.struct .name) τs 𝓤 H A W C Λ fm
+        W′.walk #lent·step-or-keep R′.mir τb τlog B′.mir (O.struct .name) τs 𝓤 H A W C Λ fm
         A′.mir (size B′.mir) (size B′.mir + size A′.mir) field0 field1 field2
         B.the-row B′.lowered (B′.lowers .val-is) (LL.makes B.the-type B′.the-plain 𝓤 H A) (broker-typed 𝓤 H A W) cell
         κ q b o γ h v n (tt, tt) (shr-slice-lawful 𝓤 H A W (named 1) κ′ u8 .typed s (v ∷ []) log-is .0) (tt, record { fits = fits })
@@ -234,7 +235,7 @@ module _ {M : Type 1} (𝓤 : URA M) (H : Heap 𝓤) (A : Atoms 𝓤) (W : Given
         by ! (subst (λ (f : Fn). ent 𝓤 (⋆ 𝓤 H A (Borrow h (‵ Rest ∷ raw Token ∷ []))) (WpFn 𝓤 H C Λ f (vptr b o ∷ v ∷ vint w64 n ∷ []) Post)) (sym code-is) runs)
 
 module _ {M : Type 1} (𝓤 : URA M) (H : Heap 𝓤) (A : Atoms 𝓤) (W : Given 𝓤 H A) (at-mem : Memory → SProp 𝓤) (run : Routine → Fun 𝓤) where
-  step-lent-walks : (C : Calls 𝓤 H) (Λ : Loops 𝓤 H) → FmC 𝓤 H (W .laws) C → Triple 𝓤 (C #steps·lent·step-or-keep) (Inner 𝓤 H A at-mem run) → Walks 𝓤 H A lent.ended stayed (WpFn 𝓤 H C Λ code.function) (lent.clauses 𝓤 H A at-mem run)
+  step-lent-walks : (C : Calls 𝓤 H) (Λ : Loops 𝓤 H) → FmC 𝓤 H (W .laws) C → Triple 𝓤 (C #lent·step-or-keep) (Inner 𝓤 H A at-mem run) → Walks 𝓤 H A lent.ended stayed (WpFn 𝓤 H C Λ code.function) (lent.clauses 𝓤 H A at-mem run)
   step-lent-walks C Λ fm known =
       walked 𝓤 H A lent.ended stayed (lent.clauses 𝓤 H A at-mem run) (WpFn 𝓤 H C Λ code.function) (λ κs. (ptr-vals, (slice-vals, (uint-vals w64, tt)))) (λ κs. (mut-tells (named 0) (κs .0) B.the-row, (shr-slice-tells (named 1) (κs .1 .0) u8, (uint-tells w64, tt))))
       (λ κs qs bounds a g are. via 𝓤 _ (fst∗ 𝓤 _ (emp 𝓤)) (walk 𝓤 H A W at-mem run (κs .0) (κs .1 .0) (qs .0) (qs .1 .0) (a .0 .ptr .0) (a .0 .ptr .1) (a .0 .name) (a .0 .now) (a .1 .0) (a .1 .1 .0) C Λ fm known (are .1 .0) (are .1 .1 .0 .1)))
@@ -242,7 +243,7 @@ module _ {M : Type 1} (𝓤 : URA M) (H : Heap 𝓤) (A : Atoms 𝓤) (W : Given
   goes : AllGo 𝓤 H A W 2 (lent.signature .params) (lent.ended .kept) stayed
   goes = (goes-ref 𝓤 H A W 2 0 tt (plain (λ _. B.the-row)), (goes-none-slice 𝓤 H A W 2 (1 ∷ []) tt (plain (λ _. u8)) yes, (goes-none 𝓤 H A W 2 (λ _. usize) yes (λ κs x f. refl), tt)))
 
-step-lent-meets : {M : Type 1} (𝓤 : URA M) (H : Heap 𝓤) (A : Atoms 𝓤) → Given 𝓤 H A → (at-mem : Memory → SProp 𝓤) (run : Routine → Fun 𝓤) (𝓣 : Tables 𝓤 H) → Triple 𝓤 (𝓣 .C #steps·lent·step-or-keep) (Inner 𝓤 H A at-mem run)
+step-lent-meets : {M : Type 1} (𝓤 : URA M) (H : Heap 𝓤) (A : Atoms 𝓤) → Given 𝓤 H A → (at-mem : Memory → SProp 𝓤) (run : Routine → Fun 𝓤) (𝓣 : Tables 𝓤 H) → Triple 𝓤 (𝓣 .C #lent·step-or-keep) (Inner 𝓤 H A at-mem run)
     → Meets 𝓤 H A lent.signature (WpFn 𝓤 H (𝓣 .C) (𝓣 .Λ) code.function) (lent.spec 𝓤 H A at-mem run)
 step-lent-meets 𝓤 H A W at-mem run 𝓣 known =
     walk-meets 𝓤 H A lent.ended stayed W (goes 𝓤 H A W at-mem run) (lent.clauses 𝓤 H A at-mem run)
@@ -252,6 +253,6 @@ pub step-lent-spec : {M : Type 1} → stated.statement M
 unfolding code.routine tablesOf
 step-lent-spec 𝓤 H 𝓜 𝓖 𝓡 =
     entered 𝓤 H (tripleOf 𝓤 H (𝓖 .A) lent.signature (lent.spec 𝓤 H (𝓖 .A) (𝓜 .mem) (𝓡 .run)))
-    (tables 𝓤 H 𝓜 𝓡 code.env .C) (tables 𝓤 H 𝓜 𝓡 code.env .Λ) #steps·lent·step-lent code.function (code.unfolded 𝓤 H 𝓜 𝓡)
+    (tables 𝓤 H 𝓜 𝓡 code.env .C) (tables 𝓤 H 𝓜 𝓡 code.env .Λ) #lent·step-lent code.function (code.unfolded 𝓤 H 𝓜 𝓡)
     (step-lent-meets 𝓤 H (𝓖 .A) (givenOf 𝓤 H 𝓜 𝓖) (𝓜 .mem) (𝓡 .run) (tablesOf 𝓤 H 𝓜 (tables 𝓤 H 𝓜 𝓡 code.env))
-    (cited 𝓤 H (Inner 𝓤 H (𝓖 .A) (𝓜 .mem) (𝓡 .run)) 𝓜 𝓡 code.env #steps·lent·step-or-keep inner-def.routine code.calls-steps·lent·step-or-keep (inner-thm.met 𝓤 H 𝓜 𝓖 𝓡)))
+    (cited 𝓤 H (Inner 𝓤 H (𝓖 .A) (𝓜 .mem) (𝓡 .run)) 𝓜 𝓡 code.env #lent·step-or-keep inner-def.routine code.calls-lent·step-or-keep (inner-thm.met 𝓤 H 𝓜 𝓖 𝓡)))

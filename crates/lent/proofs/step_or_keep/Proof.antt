@@ -1,11 +1,11 @@
--- `steps::lent::step_or_keep` meets its contract: an accepted step is as `step` ensures, and a refused one leaves the state. Assumes nothing.
+-- `lent::step_or_keep` meets its contract: an accepted step is as `step` ensures, and a refused one leaves the state. Assumes nothing.
 use mathlib.Core.Path.{refl}
 use borrow.Author.Needs.{needs}
 use Rattle.broker.specs.State.{view}
-use Rattle.steps.specs.Laws.{accepted-is-no-refusal, refused-step}
+use Rattle.lent.specs.Laws.{accepted-is-no-refusal, refused-step}
 use Rattle.steps.specs.Outcome.{outcome}
-use Rattle.steps.proofs.lent.step_or_keep.Statement.{statement}
-use Rattle.steps.proofs.lent.step_or_keep.Tie as tie
+use Rattle.lent.proofs.step_or_keep.Statement.{statement}
+use Rattle.lent.proofs.step_or_keep.Tie as tie
 
 step-requires : tie.Need-step-requires
 step-requires c κs = search needs

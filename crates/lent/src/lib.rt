@@ -2,11 +2,12 @@
 // step unchanged".
 ghost use Rattle.broker.specs.State.{view};
 ghost use Rattle.broker.specs.Step.{Stepped};
-ghost use Rattle.steps.specs.Outcome.{outcome, lentOutcome, RefusalKeeps};
-use crate::Outcome;
-use crate::step;
+ghost use Rattle.steps.specs.Outcome.{outcome};
+ghost use Rattle.lent.specs.Reply.{lentOutcome, RefusalKeeps};
 use broker::answer::Answer;
 use broker::state::Broker;
+use steps::Outcome;
+use steps::step;
 
 // What a step of a lent state gives: the answer, and the next position.
 pub struct Reply {
