@@ -2,39 +2,31 @@
 ghost use Prim.Native.Nat.{_<_};
 use broker::link::Backlog;
 use broker::link::Connection;
-use broker::link::Link;
-use broker::process::Process;
 use broker::process::Request;
 use broker::process::Status;
 use broker::process::Vmid;
 use broker::state::Broker;
+use checks::backlog::awaiting;
+use checks::write::connect;
+use checks::write::set_request;
+use checks::write::set_status;
 use transit::Message;
 use transit::Place;
 use transit::Rank;
 
-pub fn with_status(b: Broker, r: usize, status: Status) -> Broker
-    requires { ⌜ r < 16 ⌝ }
-{
-    let p = b.processes[r];
-    let request = p.request;
+pub fn with_status(b: Broker, r: u8, status: Status) -> Broker {
+    let processes = b.processes;
+    let changed = set_status(processes, Rank(r), status);
     let mut next = b;
-    next.processes[r] = Process {
-        status: status,
-        request: request,
-    };
+    next.processes = changed;
     next
 }
 
-pub fn with_request(b: Broker, r: usize, request: Request) -> Broker
-    requires { ⌜ r < 16 ⌝ }
-{
-    let p = b.processes[r];
-    let status = p.status;
+pub fn with_request(b: Broker, r: u8, request: Request) -> Broker {
+    let processes = b.processes;
+    let changed = set_request(processes, Rank(r), request);
     let mut next = b;
-    next.processes[r] = Process {
-        status: status,
-        request: request,
-    };
+    next.processes = changed;
     next
 }
 
@@ -47,31 +39,19 @@ pub fn with_location(b: Broker, of: usize, about: usize, v: Vmid) -> Broker
     next
 }
 
-pub fn with_connection(b: Broker, from: usize, to: usize, connection: Connection) -> Broker
-    requires { ⌜ from < 16 ⌝ }
-    requires to_rank { ⌜ to < 16 ⌝ }
-{
-    let l = b.links[16 * from + to];
-    let backlog = l.backlog;
+pub fn with_connection(b: Broker, from: u8, to: u8, connection: Connection) -> Broker {
+    let links = b.links;
+    let changed = connect(links, Rank(from), Rank(to), connection);
     let mut next = b;
-    next.links[16 * from + to] = Link {
-        connection: connection,
-        backlog: backlog,
-    };
+    next.links = changed;
     next
 }
 
-pub fn with_backlog(b: Broker, of: usize, from: usize, backlog: Backlog) -> Broker
-    requires { ⌜ of < 16 ⌝ }
-    requires from_rank { ⌜ from < 16 ⌝ }
-{
-    let l = b.links[16 * of + from];
-    let connection = l.connection;
+pub fn with_backlog(b: Broker, of: u8, from: u8, backlog: Backlog) -> Broker {
+    let links = b.links;
+    let changed = awaiting(links, Rank(of), Rank(from), backlog);
     let mut next = b;
-    next.links[16 * of + from] = Link {
-        connection: connection,
-        backlog: backlog,
-    };
+    next.links = changed;
     next
 }
 
