@@ -1,7 +1,7 @@
 -- The rank that a look names has something unread. Assumes nothing.
 use mathlib.Core.Bool.{Bool, true, false, cond, and-false}
 use mathlib.Core.List.{List, [], _∷_}
-use mathlib.Core.Option.{Option, none, some}
+use mathlib.Core.Option.{none}
 use mathlib.Core.Path.{_≡_, refl}
 use Prim.Native.Nat.{_<_}
 use native.Mathlib.Nat.{pos-of-ne-zero}
@@ -19,8 +19,6 @@ use Rattle.broker.specs.Laws.Checks.{passes}
 use Rattle.broker.specs.Laws.State.{sameRank-self}
 use Rattle.broker.specs.Messages.{unreadBetween}
 use Rattle.broker.specs.State.{State, messages}
-use Rattle.broker.specs.Step.{nameFitsRecord}
-use Rattle.broker.specs.declared.answer.Refusal.{Refusal}
 use Rattle.broker.specs.declared.record.Record.the-variants.{Look}
 use Rattle.exchange.specs.Look.{senderIn, oldest}
 
@@ -42,11 +40,3 @@ pub accepted-look-has-unread : (s : State) (r : Rank) → refusal s (Look r) ≡
 accepted-look-has-unread s r h =
     let apart = eqb-false (tally (to r) (messages s)) 0 (look-fits s r (passes s (Look r) h) .unread) in
     oldest-has-unread s r (pos-of-ne-zero apart)
-
--- so the rank that a look names fits its record, whatever the look comes to
-pub look-name-fits : (s : State) (r : Rank) → nameFitsRecord (oldest s r) s (refusal s (Look r)) (Look r)
-look-name-fits s r = at (refusal s (Look r)) refl
-  where
-    at : (v : Option Refusal) → refusal s (Look r) ≡ v → nameFitsRecord (oldest s r) s v (Look r)
-    at (some n) e = tt
-    at none e = accepted-look-has-unread s r e
