@@ -5,12 +5,12 @@ use mathlib.Core.Bool.{true}
 use mathlib.Core.List.{List, [], _∷_}
 use mathlib.Core.Option.{none}
 use Prim.Native.Nat.{ℕ}
+use borrow.Author.Tests.{not-true}
 use lib.ListN.{getD-replicate}
 use Rattle.broker.specs.Checks.{refusal}
 use Rattle.broker.specs.Laws.Alike.{settled-unless-migrating, status-alike, same-standings}
 use Rattle.broker.specs.Laws.Core.{core, coreStep, valuesBetween, unread-values}
 use Rattle.broker.specs.Laws.CoreStep.{core-step}
-use Rattle.broker.specs.Laws.Logic.{not-true}
 use Rattle.broker.specs.Laws.Quiet.{Quiet}
 use Rattle.broker.specs.Laws.Ranks.{everyRank-at}
 use Rattle.broker.specs.Laws.State.{cell-below}

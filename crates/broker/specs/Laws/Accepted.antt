@@ -5,8 +5,9 @@ use mathlib.Core.Bool.{Bool, true, false, not, cond, _&&_, _||_}
 use mathlib.Core.List.{List, [], _∷_}
 use Prim.Native.Nat.{ℕ, _<_}
 use native.Mathlib.Omega.{arith}
-use borrow.Author.Tests.{ltb-true, lt-ltb, leb-false, lt-leb, eqb-true, eq-eqb, eqb-false, ne-eqb}
+use borrow.Author.Tests.{ltb-true, lt-ltb, leb-false, lt-leb, eqb-true, eq-eqb, eqb-false, ne-eqb, not-false, not-true}
 use lib.Dec.{eqb, leb, ltb}
+use Rattle.transit.specs.Laws.Tests.{both, both-left, both-right}
 use Rattle.transit.specs.Lists.{tally, every}
 use Rattle.transit.specs.Message.{sameRank, between, to, at}
 use Rattle.transit.specs.Unread.{limit}
@@ -14,7 +15,7 @@ use Rattle.transit.specs.declared.Place.the-variants.{SourceChannel}
 use Rattle.transit.specs.declared.Rank.{Rank}
 use Rattle.broker.specs.Checks.{rankRange, hostRange, rankTwice, notStarted, alreadyStarted, hasEnded, firstMigrating, notMigrating, connected, requestOpen, noRequest, notConnected, peerMigrating, noNotice, sameHost, backlogLeft, noBacklog, nothingToDrain, nothingUnread, unreadLeft, full, numbersSpent}
 use Rattle.broker.specs.Laws.Checks.{Passes}
-use Rattle.broker.specs.Laws.Logic.{both, and-left, and-right, not-false, not-true, not-both, or-false-left, or-false-right}
+use Rattle.broker.specs.Laws.Logic.{not-both, or-false-left, or-false-right}
 use Rattle.broker.specs.Laws.Ranks.{everyRank-at, everyRank-of}
 use Rattle.broker.specs.Names.{hosts, numbers, isStarted, isRunning, isMigrating, isEnded, endpoint, isOpenRequest, asksFor, isClosed, isOpen, isClosing, isClear, isUnheeded}
 use Rattle.broker.specs.Ranks.{isRank}
@@ -163,7 +164,7 @@ from-not : (b : Bool) → not b ≡ false → b ≡ true
 from-not b h = not-false b h
 
 one-only : (a : Bool) → (a && true) ≡ true → a ≡ true
-one-only a h = and-left a true h
+one-only a h = both-left a true h
 
 or-none : (a : Bool) → (a || false) ≡ false → a ≡ false
 or-none a h = or-false-left a false h
@@ -178,12 +179,12 @@ one-of s r h k =
 two-of : (s : State) (a b : Rank) → not (isRank a && (isRank b && true)) ≡ false → (sameRank a b || false) ≡ false → not (isStarted (status s a) && (isStarted (status s b) && true)) ≡ false → Two s a b
 two-of s a b h e k =
     record {
-      first = ltb-true (a .0) 16 (and-left (isRank a) (isRank b && true) (from-not _ h));
-      second = ltb-true (b .0) 16 (one-only (isRank b) (and-right (isRank a) (isRank b && true) (from-not _ h)));
+      first = ltb-true (a .0) 16 (both-left (isRank a) (isRank b && true) (from-not _ h));
+      second = ltb-true (b .0) 16 (one-only (isRank b) (both-right (isRank a) (isRank b && true) (from-not _ h)));
       apart = or-none (sameRank a b) e;
-      first-started = and-left (isStarted (status s a)) (isStarted (status s b) && true) (from-not _ k);
+      first-started = both-left (isStarted (status s a)) (isStarted (status s b) && true) (from-not _ k);
       second-started =
-          one-only (isStarted (status s b)) (and-right (isStarted (status s a)) (isStarted (status s b) && true) (from-not _ k));
+          one-only (isStarted (status s b)) (both-right (isStarted (status s a)) (isStarted (status s b) && true) (from-not _ k));
     }
 
 pub start-fits : (s : State) (r : Rank) (h : ℕ) → Passes s (Start r h) → StartFits s r h

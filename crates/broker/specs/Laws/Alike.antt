@@ -7,6 +7,7 @@ use mathlib.Core.Option.{none}
 use Prim.Native.Nat.{ℕ, _<_}
 use lib.ListN.{length, length-map, getD}
 use Rattle.transit.specs.Laws.Lists.{select-map}
+use Rattle.transit.specs.Laws.Tests.{both-left}
 use Rattle.transit.specs.Lists.{tally}
 use Rattle.transit.specs.Message.{between, to}
 use Rattle.transit.specs.declared.Message.{Message}
@@ -16,7 +17,7 @@ use Rattle.broker.specs.Laws.Accepted.{One, Two, SendFits, start-fits, s
 use Rattle.broker.specs.Laws.Accepts.{start-accepted, call-accepted, route-accepted, send-accepted, take-accepted, move-accepted, land-accepted, part-accepted, end-accepted}
 use Rattle.broker.specs.Laws.Checks.{passes}
 use Rattle.broker.specs.Laws.Core.{Core, core, settled, letter, core-status, endpoint-settled}
-use Rattle.broker.specs.Laws.Logic.{not-both, and-left, or-right}
+use Rattle.broker.specs.Laws.Logic.{not-both, or-right}
 use Rattle.broker.specs.Laws.Quiet.{Calm, AllQuiet, Moving, Calling, Joined, nobody}
 use Rattle.broker.specs.Laws.Sound.{Pairs, facts}
 use Rattle.broker.specs.Laws.State.{sameRank-self}
@@ -72,7 +73,7 @@ peer-lives s a b h f = at (connection s a b) refl (f .line)
 
     awaited : (g : Backlog) (m t : Bool) → Bool·beq (isUnheeded g) true ≡ true → (isClear g || m && t) ≡ true → m ≡ true
     awaited Clear m t u e = absurd (not-both u refl)
-    awaited Unheeded m t u e = and-left m t e
+    awaited Unheeded m t u e = both-left m t e
     awaited Marked m t u e = absurd (not-both u refl)
 
     at : (t : Connection) → connection s a b ≡ t → isClosed t ≡ false → isLive (status s b) ≡ true

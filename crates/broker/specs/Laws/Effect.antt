@@ -3,14 +3,15 @@
 use mathlib.Core.Path.{_≡_, refl, sym, ap, _∙_}
 use mathlib.Core.Bool.{Bool, true, false, cond, not, _&&_}
 use Prim.Native.Nat.{_<_}
-use borrow.Author.Tests.{ltb-true}
+use borrow.Author.Tests.{ltb-true, not-true}
 use lib.Dec.{T}
+use Rattle.transit.specs.Laws.Tests.{both, both-left, both-right}
 use Rattle.transit.specs.Message.{sameRank, relabelled}
 use Rattle.transit.specs.declared.Message.{Message}
 use Rattle.transit.specs.declared.Place.{Place}
 use Rattle.transit.specs.declared.Rank.{Rank}
 use Rattle.broker.specs.Laws.Fit.{pair-fits, pair-kept, message-kept, pairs-from-fits, nothingWith, fits}
-use Rattle.broker.specs.Laws.Logic.{both, and-left, and-right, not-both, not-true}
+use Rattle.broker.specs.Laws.Logic.{not-both}
 use Rattle.broker.specs.Laws.Sound.{AtRanks, Pairs, isNamed}
 use Rattle.broker.specs.Laws.State.{sameRank-eq, sameRank-self, sameRank-joins}
 use Rattle.broker.specs.Laws.View.{Standing, Side, side, Role, forward, backward, outside, turn, Change, pairFits, messageFits, given, keeps}
@@ -39,7 +40,7 @@ not-twice x a b d = at (sameRank x a) (sameRank x b) refl refl
 -- a pair is not both ways round the same as two that differ
 pub exclusive : (p q x y : Rank) → sameRank p q ≡ false → (sameRank x p && sameRank y q) ≡ true → (sameRank x q && sameRank y p) ≡ true → ⊥
 exclusive p q x y d g h =
-    not-both (sameRank-joins x p q (and-left (sameRank x p) (sameRank y q) g) (and-left (sameRank x q) (sameRank y p) h)) d
+    not-both (sameRank-joins x p q (both-left (sameRank x p) (sameRank y q) g) (both-left (sameRank x q) (sameRank y p) h)) d
 
 -- the role of a pair in a step about one rank, and in a step about two
 abbrev pub roleOf : Rank → Rank → Rank → Role
@@ -100,9 +101,9 @@ module _ (s s' : State) (c : Change) (role : Rank → Rank → Role) (kept : T (
   -- a message stays fit at its place anew
   pub message-stays : (m : Message) → isNamed m ≡ true → fits s m ≡ true → c .askedOf (role (m .receiver) (m .sender)) (m .place) ≡ true → fits s' (relabelled (c .place (role (m .receiver) (m .sender)) (m .place)) m) ≡ true
   message-stays m n h k =
-      let named = and-left (isRank (m .sender) && isRank (m .receiver)) (not (sameRank (m .sender) (m .receiver))) n in
-      let from = ltb-true (m .sender .0) 16 (and-left (isRank (m .sender)) (isRank (m .receiver)) named) in
-      let to = ltb-true (m .receiver .0) 16 (and-right (isRank (m .sender)) (isRank (m .receiver)) named) in
-      let d = sameRank-turned (m .sender) (m .receiver) (not-true (sameRank (m .sender) (m .receiver)) (and-right (isRank (m .sender) && isRank (m .receiver)) (not (sameRank (m .sender) (m .receiver))) n)) in
+      let named = both-left (isRank (m .sender) && isRank (m .receiver)) (not (sameRank (m .sender) (m .receiver))) n in
+      let from = ltb-true (m .sender .0) 16 (both-left (isRank (m .sender)) (isRank (m .receiver)) named) in
+      let to = ltb-true (m .receiver .0) 16 (both-right (isRank (m .sender)) (isRank (m .receiver)) named) in
+      let d = sameRank-turned (m .sender) (m .receiver) (not-true (sameRank (m .sender) (m .receiver)) (both-right (isRank (m .sender) && isRank (m .receiver)) (not (sameRank (m .sender) (m .receiver))) n)) in
       rw (e .sides (m .receiver) (m .sender) to from d, other (m .receiver) (m .sender) to from d)
       (message-kept c kept (role (m .receiver) (m .sender)) (side s (m .receiver) (m .sender)) (side s (m .sender) (m .receiver)) (demand (m .receiver) (m .sender) to from d) (m .place) h k)

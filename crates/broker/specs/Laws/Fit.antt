@@ -5,8 +5,9 @@ use mathlib.Core.Bool.{Bool, true, false, not, Bool·beq, _&&_, _||_, true≢fal
 use mathlib.Core.List.{List, [], _∷_}
 use lib.Dec.{T}
 use Prim.Native.Nat.{_<_}
-use borrow.Author.Tests.{ltb-true}
+use borrow.Author.Tests.{ltb-true, not-true}
 use Rattle.transit.specs.Laws.Lists.{every-both, every-wider}
+use Rattle.transit.specs.Laws.Tests.{both, both-left, both-right}
 use Rattle.transit.specs.Lists.{every}
 use Rattle.transit.specs.Message.{sameRank, samePlace, at}
 use Rattle.transit.specs.declared.Message.{Message}
@@ -14,7 +15,7 @@ use Rattle.transit.specs.declared.Place.{Place}
 use Rattle.transit.specs.declared.Place.the-variants.{SourceList, SourceChannel, Channel}
 use Rattle.transit.specs.declared.Place.the-variants as places
 use Rattle.transit.specs.declared.Rank.{Rank}
-use Rattle.broker.specs.Laws.Logic.{both, and-left, and-right, AllTrue, parts, chained, true-of, not-true}
+use Rattle.broker.specs.Laws.Logic.{AllTrue, parts, chained, true-of}
 use Rattle.broker.specs.Laws.Sound.{AtRanks, AtPairs, Pairs, Mail, isNamed, hasEnds, fitsUnheeded, fitsPlace}
 use Rattle.broker.specs.Laws.State.{sameRank-eq}
 use Rattle.broker.specs.Laws.View.{Standing, unstarted, running, migrating, ended, standing, hasStarted, runs, migrates, lives, Side, side, Role, forward, backward, outside, turn, Change, pairFits, messageFits, sideFits, given, keeps, pairKept, messageKept, atStandings, atConnections, atBacklogs, atBools, atPlaces, atRoles, atSides, atPairs}
@@ -47,8 +48,8 @@ at-backlog f h Unheeded = parts (f Clear) (f Unheeded ∷ f Marked ∷ []) h .1 
 at-backlog f h Marked = parts (f Clear) (f Unheeded ∷ f Marked ∷ []) h .1 .1 .0
 
 at-bool : (f : Bool → Bool) → atBools f ≡ true → (b : Bool) → f b ≡ true
-at-bool f h true = and-left (f true) (f false) h
-at-bool f h false = and-right (f true) (f false) h
+at-bool f h true = both-left (f true) (f false) h
+at-bool f h false = both-right (f true) (f false) h
 
 at-each-place : (f : Place → Bool) → atPlaces f ≡ true → (p : Place) → f p ≡ true
 at-each-place f h places.SourceList = parts (f places.SourceList) (f places.SourceChannel ∷ f places.List ∷ f places.Channel ∷ []) h .0
@@ -117,13 +118,13 @@ module _ (c : Change) (kept : T (keeps c)) (k : Role) (x y : Side) (fits : given
 
   -- a change that keeps pairs fit keeps each
   pub pair-kept : pairFits (c .anew k x y) (c .anew (turn k) y x) ≡ true
-  pair-kept = and-left (pairFits (c .anew k x y) (c .anew (turn k) y x)) (atPlaces (messageKept c k x y)) now
+  pair-kept = both-left (pairFits (c .anew k x y) (c .anew (turn k) y x)) (atPlaces (messageKept c k x y)) now
 
   -- and each message of it
   pub message-kept : (p : Place) → messageFits p x y ≡ true → c .askedOf k p ≡ true → messageFits (c .place k p) (c .anew k x y) (c .anew (turn k) y x) ≡ true
   message-kept p m a =
       guarded (messageFits p x y && c .askedOf k p) (messageFits (c .place k p) (c .anew k x y) (c .anew (turn k) y x))
-      (at-each-place (messageKept c k x y) (and-right (pairFits (c .anew k x y) (c .anew (turn k) y x)) (atPlaces (messageKept c k x y)) now) p)
+      (at-each-place (messageKept c k x y) (both-right (pairFits (c .anew k x y) (c .anew (turn k) y x)) (atPlaces (messageKept c k x y)) now) p)
       (both m a)
 
 -- two tests that pass at every element pass together
@@ -241,17 +242,17 @@ module _ (s : State) (l : List Message) (h : every (fits s) l ≡ true) where
   pub ends-from-fits : every (hasEnds s) l ≡ true
   ends-from-fits =
       every-wider (fits s) (hasEnds s)
-      (λ m e. and-left _ _ (and-left (hasEnds s m && fitsUnheeded s m) (fitsPlace s m) (sym (fits-as s m) ∙ e)))
+      (λ m e. both-left _ _ (both-left (hasEnds s m && fitsUnheeded s m) (fitsPlace s m) (sym (fits-as s m) ∙ e)))
       l h
 
   pub unheeded-from-fits : every (fitsUnheeded s) l ≡ true
   unheeded-from-fits =
       every-wider (fits s) (fitsUnheeded s)
-      (λ m e. and-right (hasEnds s m) (fitsUnheeded s m) (and-left (hasEnds s m && fitsUnheeded s m) (fitsPlace s m) (sym (fits-as s m) ∙ e)))
+      (λ m e. both-right (hasEnds s m) (fitsUnheeded s m) (both-left (hasEnds s m && fitsUnheeded s m) (fitsPlace s m) (sym (fits-as s m) ∙ e)))
       l h
 
   pub places-from-fits : every (fitsPlace s) l ≡ true
   places-from-fits =
       every-wider (fits s) (fitsPlace s)
-      (λ m e. and-right (hasEnds s m && fitsUnheeded s m) (fitsPlace s m) (sym (fits-as s m) ∙ e))
+      (λ m e. both-right (hasEnds s m && fitsUnheeded s m) (fitsPlace s m) (sym (fits-as s m) ∙ e))
       l h

@@ -9,12 +9,13 @@ use native.Mathlib.Decide.{ℕ-discrete}
 use borrow.Author.Tests.{lt-ltb, le-ltb, ltb-true, ltb-false, eqb-true, eqb-false, ne-eqb}
 use lib.Dec.{ltb, eqb}
 use lib.ListN.{length, length-set}
+use Rattle.transit.specs.Laws.Tests.{both-left, both-right}
 use Rattle.transit.specs.Message.{sameRank}
 use Rattle.transit.specs.declared.Rank.{Rank}
 use Rattle.broker.specs.Laws.Changes.{byRole}
 use Rattle.broker.specs.Laws.Effect.{roleOf, sameRank-turned, not-twice}
 use Rattle.broker.specs.Laws.Links.{connect-long, await-long, connect-connection, connect-backlog, await-connection, await-backlog}
-use Rattle.broker.specs.Laws.Logic.{not-both, and-left, and-right}
+use Rattle.broker.specs.Laws.Logic.{not-both}
 use Rattle.broker.specs.Laws.State.{link-set, sameRank-eq, sameRank-self, sameRank-joins}
 use Rattle.broker.specs.Laws.View.{Role, forward, backward, outside}
 use Rattle.broker.specs.Migrate.{leave, leaveOver, leaveAll}
@@ -59,7 +60,7 @@ module _ (r p : Rank) (hr : r .0 < 16) (hp : p .0 < 16) (d : sameRank r p ≡ fa
   not-both-ways a b e = at (sameRank a p) refl
     where
       at : (t : Bool) → sameRank a p ≡ t → (t && sameRank b r) ≡ false
-      at true g = absurd (not-both (sameRank-joins a r p (and-left (sameRank a r) (sameRank b p) e) g) d)
+      at true g = absurd (not-both (sameRank-joins a r p (both-left (sameRank a r) (sameRank b p) e) g) d)
       at false g = refl
 
   leave-over : (c : Connection) (ls : List Link) → length ls ≡ 256 → (a b : Rank) → a .0 < 16 → b .0 < 16 → linkAt (leaveOver c r p ls) a b ≡ leftOver c ls a b

@@ -5,10 +5,10 @@ use mathlib.Core.Bool.{Bool, true, false, cond, _&&_}
 use mathlib.Core.List.{List}
 use Prim.Native.Nat.{ℕ, _<_}
 use lib.ListN.{length, length-set}
+use Rattle.transit.specs.Laws.Tests.{both-left, both-right}
 use Rattle.transit.specs.Message.{sameRank}
 use Rattle.transit.specs.declared.Rank.{Rank}
 use Rattle.broker.specs.Connect.{connect}
-use Rattle.broker.specs.Laws.Logic.{and-left, and-right}
 use Rattle.broker.specs.Laws.State.{link-set, sameRank-eq}
 use Rattle.broker.specs.Migrate.{await}
 use Rattle.broker.specs.State.{cell, linkAt, setLink}
@@ -25,8 +25,8 @@ await-long ls p q g n = simp length-set n
 -- both ranks are the same
 same-pair : (a b p q : Rank) → (sameRank a p && sameRank b q) ≡ true → (ls : List Link) → linkAt ls a b ≡ linkAt ls p q
 same-pair a b p q e ls =
-    ap (λ (r : Rank). linkAt ls r b) (sameRank-eq a p (and-left (sameRank a p) (sameRank b q) e)) ∙
-    ap (linkAt ls p) (sameRank-eq b q (and-right (sameRank a p) (sameRank b q) e))
+    ap (λ (r : Rank). linkAt ls r b) (sameRank-eq a p (both-left (sameRank a p) (sameRank b q) e)) ∙
+    ap (linkAt ls p) (sameRank-eq b q (both-right (sameRank a p) (sameRank b q) e))
 
 module _ (ls : List Link) (p q : Rank) (n : length ls ≡ 256) (hp : p .0 < 16) (hq : q .0 < 16) (a b : Rank) (hb : b .0 < 16) where
   -- a line that is set is set there, and everywhere else stands as it stood

@@ -9,11 +9,12 @@ use native.Mathlib.Omega.{arith}
 use borrow.Author.Tests.{ltb-true, lt-ltb, leb-true, le-leb, eqb-true, eq-eqb, ne-eqb}
 use lib.Dec.{eqb, leb, ltb}
 use lib.ListN.{length}
+use Rattle.transit.specs.Laws.Tests.{both, both-left, both-right}
 use Rattle.transit.specs.Lists.{every}
 use Rattle.transit.specs.Laws.Lists.{every-wider}
 use Rattle.transit.specs.declared.Rank.{Rank}
 use Rattle.broker.specs.Laws.Cases.{chosen}
-use Rattle.broker.specs.Laws.Logic.{both, and-left, and-right, not-both, parts, chained}
+use Rattle.broker.specs.Laws.Logic.{not-both, parts, chained}
 use Rattle.broker.specs.Laws.State.{drawn-with}
 use Rattle.broker.specs.Life.{nextVmid, draw}
 use Rattle.broker.specs.Names.{hosts, sameVmid, isStarted, isEnded, endpoint, processesOf, vmidsOf}
@@ -36,8 +37,8 @@ eqb-swap m n = at (ℕ-discrete m n)
 -- two vmids are the same where their hosts and numbers are, compared either way round
 pub sameVmid-eq : (v w : Vmid) → sameVmid v w ≡ true → v ≡ w
 sameVmid-eq v w h =
-    let p : v .0 ≡ w .0 = eqb-true (v .0) (w .0) (and-left (eqb (v .0) (w .0)) (eqb (v .1) (w .1)) h) in
-    let q : v .1 ≡ w .1 = eqb-true (v .1) (w .1) (and-right (eqb (v .0) (w .0)) (eqb (v .1) (w .1)) h) in
+    let p : v .0 ≡ w .0 = eqb-true (v .0) (w .0) (both-left (eqb (v .0) (w .0)) (eqb (v .1) (w .1)) h) in
+    let q : v .1 ≡ w .1 = eqb-true (v .1) (w .1) (both-right (eqb (v .0) (w .0)) (eqb (v .1) (w .1)) h) in
     λ i. record { 0 = p i; 1 = q i }
 
 pub sameVmid-swap : (v w : Vmid) → sameVmid v w ≡ sameVmid w v
@@ -48,8 +49,8 @@ pub every-swap : {A : Type 0} (p q : A → A → Bool) → ((x y : A) → p x y 
 every-swap p q swap l [] h = refl
 every-swap p q swap l (y ∷ m) h =
     both
-    (every-wider (λ x. p x y && every (p x) m) (q y) (λ x e. swap x y (and-left (p x y) (every (p x) m) e)) l h)
-    (every-swap p q swap l m (every-wider (λ x. p x y && every (p x) m) (λ x. every (p x) m) (λ x. and-right (p x y) (every (p x) m)) l h))
+    (every-wider (λ x. p x y && every (p x) m) (q y) (λ x e. swap x y (both-left (p x y) (every (p x) m) e)) l h)
+    (every-swap p q swap l m (every-wider (λ x. p x y && every (p x) m) (λ x. every (p x) m) (λ x. both-right (p x y) (every (p x) m)) l h))
 
 -- what one list does not share with another, the other does not share with it
 pub noneShared-swap : (vs ws : List Vmid) → noneShared vs ws ≡ true → noneShared ws vs ≡ true
@@ -114,9 +115,9 @@ module _ (s : State) (h : ℕ) (long : length (s .drawn) ≡ 8) (host : h < 8) w
 -- the current end is among a standing's vmids
 pub endpoint-in : (p : Vmid → Bool) (t : Status) → isStarted t ≡ true → every p (vmidsOf t) ≡ true → p (endpoint t) ≡ true
 endpoint-in p Unstarted a h = absurd (not-both a refl)
-endpoint-in p (Running v) a h = and-left (p v) true h
-endpoint-in p (Migrating v w) a h = and-left (p w) true (and-right (p v) (p w && true) h)
-endpoint-in p (Ended v) a h = and-left (p v) true h
+endpoint-in p (Running v) a h = both-left (p v) true h
+endpoint-in p (Migrating v w) a h = both-left (p w) true (both-right (p v) (p w && true) h)
+endpoint-in p (Ended v) a h = both-left (p v) true h
 
 -- a standing's processes are among its vmids, and all of them where it has not ended
 pub processes-in : (p : Vmid → Bool) (t : Status) → every p (vmidsOf t) ≡ true → every p (processesOf t) ≡ true
@@ -134,4 +135,4 @@ processes-all (Ended v) h = absurd (not-both refl h)
 -- a wider test of vmids passes where a narrower does: of a call's vmid
 pub ofCall-wider : (f : Rank → Bool) (p q : Vmid → Bool) → ((v : Vmid) → p v ≡ true → q v ≡ true) → (c : Request) → ofCall f p c ≡ true → ofCall f q c ≡ true
 ofCall-wider f p q wider Absent h = h
-ofCall-wider f p q wider (Posted b v) h = both (and-left (f b) (p v) h) (wider v (and-right (f b) (p v) h))
+ofCall-wider f p q wider (Posted b v) h = both (both-left (f b) (p v) h) (wider v (both-right (f b) (p v) h))

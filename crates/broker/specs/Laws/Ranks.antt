@@ -7,16 +7,16 @@ use Prim.Native.Nat.{ℕ, zero, suc, _<_, _≤_}
 use native.Mathlib.Nat.{not-suc-le-zero}
 use native.Mathlib.Omega.{arith}
 use native.Mathlib.Decide.{ℕ-discrete}
+use Rattle.transit.specs.Laws.Tests.{both, both-left, both-right}
 use Rattle.transit.specs.declared.Rank.{Rank}
-use Rattle.broker.specs.Laws.Logic.{both, and-left, and-right}
 use Rattle.broker.specs.Ranks.{ranks, rank, allBelow, eachBelow, everyRank, everyPair, eachRank}
 
 pub allBelow-at : (n : ℕ) (f : ℕ → Bool) → allBelow n f ≡ true → (k : ℕ) → k < n → f k ≡ true
 allBelow-at zero f h k b = absurd (not-suc-le-zero b)
-allBelow-at (suc n) f h k b = at (ℕ-discrete k n) (allBelow-at n f (and-left (allBelow n f) (f n) h) k)
+allBelow-at (suc n) f h k b = at (ℕ-discrete k n) (allBelow-at n f (both-left (allBelow n f) (f n) h) k)
   where
     at : Dec (k ≡ n) → (k < n → f k ≡ true) → f k ≡ true
-    at (yes e) below = rw e (and-right (allBelow n f) (f n) h)
+    at (yes e) below = rw e (both-right (allBelow n f) (f n) h)
     at (no d) below = below (omega arith)
 
 pub allBelow-of : (n : ℕ) (f : ℕ → Bool) → ((k : ℕ) → k < n → f k ≡ true) → allBelow n f ≡ true

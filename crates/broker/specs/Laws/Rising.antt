@@ -10,8 +10,7 @@ use lib.Dec.{leb}
 use lib.ListN.{length}
 use Rattle.transit.specs.Lists.{select, every, without, changeFirst, neverFalls}
 use Rattle.transit.specs.Laws.Lists.{every-map, every-both, every-select, every-selected, every-wider, every-changeFirst}
-use Rattle.transit.specs.Laws.Tests.{by-test}
-use Rattle.broker.specs.Laws.Logic.{both, and-left, and-right}
+use Rattle.transit.specs.Laws.Tests.{by-test, both, both-left, both-right}
 
 module _ {A : Type 0} where
   -- Where every element passes t, every element that passes p passes what follows from both.
@@ -30,11 +29,11 @@ module _ {A : Type 0} where
       → (l : List A) → every p l ≡ true → neverFalls (map g l) ≡ true → neverFalls (map g (changeFirst q f l)) ≡ true
   neverFalls-changeFirst g p q f kept lower above [] all sorted = refl
   neverFalls-changeFirst g p q f kept lower above (x ∷ l) all sorted =
-      let here = and-left (p x) (every p l) all in
-      let others = and-right (p x) (every p l) all in
+      let here = both-left (p x) (every p l) all in
+      let others = both-right (p x) (every p l) all in
       let from : A → A → Bool = λ y z. leb (g y) (g z) in
-      let first : every (from x) l ≡ true = rw every-map at (and-left (every (leb (g x)) (map g l)) (neverFalls (map g l)) sorted) in
-      let rest = and-right (every (leb (g x)) (map g l)) (neverFalls (map g l)) sorted in
+      let first : every (from x) l ≡ true = rw every-map at (both-left (every (leb (g x)) (map g l)) (neverFalls (map g l)) sorted) in
+      let rest = both-right (every (leb (g x)) (map g l)) (neverFalls (map g l)) sorted in
       by-test (q x)
       (λ e.
       let still : every (leb (g (f x))) (map g l) ≡ true =
@@ -45,11 +44,11 @@ module _ {A : Type 0} where
       let after : every (λ y. p y && from x y) (changeFirst q f l) ≡ true =
       every-changeFirst (λ y. p y && from x y) q f
       (λ y h c.
-      let mine = and-left (p y) (from x y) h in
-      both (kept y ∙ mine) (le-leb (g x) (g (f y)) (above x y here mine e c (leb-true (g x) (g y) (and-right (p y) (from x y) h)))))
+      let mine = both-left (p y) (from x y) h in
+      both (kept y ∙ mine) (le-leb (g x) (g (f y)) (above x y here mine e c (leb-true (g x) (g y) (both-right (p y) (from x y) h)))))
       l (every-both p (from x) (λ y. p y && from x y) (λ y h k. both h k) l others first)
       in
       let still : every (leb (g x)) (map g (changeFirst q f l)) ≡ true =
-      rw every-map (every-wider (λ y. p y && from x y) (from x) (λ y h. and-right (p y) (from x y) h) (changeFirst q f l) after)
+      rw every-map (every-wider (λ y. p y && from x y) (from x) (λ y h. both-right (p y) (from x y) h) (changeFirst q f l) after)
       in
       rw e (both still (neverFalls-changeFirst g p q f kept lower above l others rest)))

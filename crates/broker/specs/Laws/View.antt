@@ -2,11 +2,11 @@
 -- soundness says of a pair, and of one message of it, is a test of that view. Assumes nothing.
 use mathlib.Core.Path.{_≡_, refl}
 use mathlib.Core.Bool.{Bool, true, false, not, Bool·beq, _&&_, _||_}
+use Rattle.transit.specs.Laws.Tests.{both-left, both-right}
 use Rattle.transit.specs.Message.{samePlace}
 use Rattle.transit.specs.declared.Place.{Place}
 use Rattle.transit.specs.declared.Place.the-variants.{SourceList, SourceChannel, List, Channel}
 use Rattle.transit.specs.declared.Rank.{Rank}
-use Rattle.broker.specs.Laws.Logic.{and-left, and-right}
 use Rattle.broker.specs.Names.{asksFor, isClosed, isOpen, isClosing, isClear, isUnheeded}
 use Rattle.broker.specs.State.{State, status, request, connection, backlog}
 use Rattle.broker.specs.declared.link.Backlog.{Backlog}

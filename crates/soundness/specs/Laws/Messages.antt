@@ -7,11 +7,11 @@ use Prim.Native.Nat.{_<_}
 use borrow.Author.Tests.{ltb-true}
 use lib.Dec.{eqb}
 use Rattle.transit.specs.Laws.Lists.{every-both}
+use Rattle.transit.specs.Laws.Tests.{both, both-left, both-right}
 use Rattle.transit.specs.Lists.{select, every}
 use Rattle.transit.specs.Message.{between}
 use Rattle.transit.specs.declared.Message.{Message}
 use Rattle.transit.specs.declared.Rank.{Rank}
-use Rattle.broker.specs.Laws.Logic.{both, and-left, and-right}
 use Rattle.broker.specs.Laws.Sound.{isNamed}
 use Rattle.broker.specs.Laws.State.{cell-below, cell-same}
 use Rattle.broker.specs.Ranks.{isRank}
@@ -22,7 +22,7 @@ use Rattle.soundness.specs.Messages.{pairOf}
 pub select-agree : {A : Type 0} (w p q : A → Bool) → ((x : A) → w x ≡ true → p x ≡ q x) → (l : List A) → every w l ≡ true → select p l ≡ select q l
 select-agree w p q agree [] all = refl
 select-agree w p q agree (x ∷ l) all =
-    rw (agree x (and-left (w x) (every w l) all), select-agree w p q agree l (and-right (w x) (every w l) all))
+    rw (agree x (both-left (w x) (every w l) all), select-agree w p q agree l (both-right (w x) (every w l) all))
 
 -- Two tests that each pass everywhere pass together everywhere.
 pub every-and : {A : Type 0} (p q : A → Bool) (l : List A) → every p l ≡ true → every q l ≡ true → every (λ x. p x && q x) l ≡ true
@@ -31,14 +31,14 @@ every-and p q l ps qs = every-both p q (λ x. p x && q x) (λ x h k. both h k) l
 -- The sender of a message with names in range is a rank.
 pub sender-inside : (m : Message) → isNamed m ≡ true → m .sender .0 < 16
 sender-inside m h =
-    let ranks = and-left (isRank (m .sender) && isRank (m .receiver)) _ h in
-    ltb-true _ _ (and-left (isRank (m .sender)) _ ranks)
+    let ranks = both-left (isRank (m .sender) && isRank (m .receiver)) _ h in
+    ltb-true _ _ (both-left (isRank (m .sender)) _ ranks)
 
 -- So is the receiver.
 pub receiver-inside : (m : Message) → isNamed m ≡ true → m .receiver .0 < 16
 receiver-inside m h =
-    let ranks = and-left (isRank (m .sender) && isRank (m .receiver)) _ h in
-    ltb-true _ _ (and-right (isRank (m .sender)) _ ranks)
+    let ranks = both-left (isRank (m .sender) && isRank (m .receiver)) _ h in
+    ltb-true _ _ (both-right (isRank (m .sender)) _ ranks)
 
 -- And its pair has a cell.
 pub pair-inside : (m : Message) → isNamed m ≡ true → pairOf m < 256

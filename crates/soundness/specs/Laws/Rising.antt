@@ -18,7 +18,7 @@ use Rattle.soundness.specs.Messages.{rises}
 neverFalls-before : (d x : ℕ) (l : List ℕ) → leb d x ≡ true → neverFalls (x ∷ l) ≡ true → neverFalls (d ∷ x ∷ l) ≡ true
 neverFalls-before d x l below sorted =
     let above = every-wider (leb x) (leb d) (λ y h. le-leb d y (omega (arith, leb-true x y h, leb-true d x below))) l (both-left (every (leb x) l) _ sorted) in
-    both (leb d x && every (leb d) l) _ (both (leb d x) _ below above) sorted
+    both (both below above) sorted
 
 -- Nothing falls from 0.
 neverFalls-from-zero : (l : List ℕ) → neverFalls (0 ∷ l) ≡ neverFalls l
@@ -50,7 +50,7 @@ module _ {A : Type 0} (fits : A → Bool) (cellOf numberOf : A → ℕ) where
   pub rises-fits : (last : List ℕ) (l : List A) → passes last l ≡ true → every fits l ≡ true
   rises-fits last [] h = refl
   rises-fits last (x ∷ l) h =
-      both (fits x) _ (both-left (fits x) _ h)
+      both (both-left (fits x) _ h)
       (rises-fits (set last (cellOf x) (numberOf x)) l (both-right (leb (getD last (cellOf x) 0) (numberOf x)) _ (both-right (fits x) _ h)))
 
   module _ (n : ℕ) (inside : (x : A) → fits x ≡ true → cellOf x < n) where
@@ -83,8 +83,8 @@ module _ {A : Type 0} (fits : A → Bool) (cellOf numberOf : A → ℕ) where
         let fit = both-left (fits x) _ all in
         let here : neverFalls (getD last (cellOf x) 0 ∷ numberOf x ∷ numbersIn cellOf numberOf (cellOf x) l) ≡ true = rw (eq-eqb (cellOf x) (cellOf x) refl) at (sorted (cellOf x) (inside x fit)) in
         let above = both-left (leb (getD last (cellOf x) 0) (numberOf x)) _ (both-left (every (leb (getD last (cellOf x) 0)) (numberOf x ∷ numbersIn cellOf numberOf (cellOf x) l)) _ here) in
-        both (fits x) _ fit
-        (both (leb (getD last (cellOf x) 0) (numberOf x)) _ above
+        both fit
+        (both above
         (rises-after (set last (cellOf x) (numberOf x)) l (length-set last (cellOf x) (numberOf x) ∙ long) (both-right (fits x) _ all) (after fit)))
       where
         after : fits x ≡ true → (k : ℕ) → k < n → neverFalls (getD (set last (cellOf x) (numberOf x)) k 0 ∷ numbersIn cellOf numberOf k l) ≡ true

@@ -8,13 +8,14 @@ use native.Mathlib.Omega.{arith}
 use borrow.Author.Tests.{leb-true, le-leb}
 use lib.Dec.{leb}
 use lib.ListN.{length, replicate}
+use Rattle.transit.specs.Laws.Tests.{both, both-left, both-right}
 use Rattle.transit.specs.Lists.{neverFalls}
 use Rattle.transit.specs.Laws.Lists.{every-wider}
 use Rattle.transit.specs.Message.{number}
 use Rattle.transit.specs.Unread.{limit}
 use Rattle.transit.specs.declared.Message.{Message}
 use Rattle.transit.specs.declared.Rank.{Rank}
-use Rattle.broker.specs.Laws.Logic.{both, and-left, and-right, AllTrue, parts, chained}
+use Rattle.broker.specs.Laws.Logic.{AllTrue, parts, chained}
 use Rattle.broker.specs.Laws.Ranks.{everyRank-at, everyRank-of, everyPair-at, everyPair-of}
 use Rattle.broker.specs.Laws.Sound.{AtPairs, Shape, Names, Pairs, Mail, Facts, facts, of-facts, isNamed, hasEnds, fitsUnheeded, fitsPlace}
 use Rattle.broker.specs.Names.{numbers, isStarted, isMigrating, isLive, isClosed, isOpen, isClosing, isClear}
@@ -83,7 +84,7 @@ module _ (s : State) where
 
   -- A message that passes has a cell for its pair.
   has-cell : (m : Message) → messageTest m ≡ true → pairOf m < 256
-  has-cell m h = pair-inside m (and-left (isNamed m) _ h)
+  has-cell m h = pair-inside m (both-left (isNamed m) _ h)
 
   -- From soundness to the tests.
 
@@ -156,33 +157,33 @@ module _ (s : State) where
         lines-belong = λ a b h k. connection-holds pairs a b h k .0;
         plain-both-sides = λ a b h k. connection-holds pairs a b h k .1 .0;
         notice-faces-none = λ a b h k. connection-holds pairs a b h k .1 .1 .0;
-        awaits-belong = λ a b h k. and-left (backlogClause a b) _ (pair-holds pairs a b h k .1 .1 .1 .0);
-        unheeded-is-notice = λ a b h k. and-right (backlogClause a b) _ (pair-holds pairs a b h k .1 .1 .1 .0);
+        awaits-belong = λ a b h k. both-left (backlogClause a b) _ (pair-holds pairs a b h k .1 .1 .1 .0);
+        unheeded-is-notice = λ a b h k. both-right (backlogClause a b) _ (pair-holds pairs a b h k .1 .1 .1 .0);
         calls-fit = λ a b h k. pair-holds pairs a b h k .1 .1 .1 .1 .0;
       }
 
   -- what a message that passes tells beyond its names
   fits-of : (m : Message) → messageTest m ≡ true → (hasEnds s m ≡ true) × ((fitsUnheeded s m && fitsPlace s m) ≡ true)
   fits-of m h =
-      let fits = and-right (isNamed m) _ h in
-      (and-left (hasEnds s m) _ fits, and-right (hasEnds s m) _ fits)
+      let fits = both-right (isNamed m) _ h in
+      (both-left (hasEnds s m) _ fits, both-right (hasEnds s m) _ fits)
 
   messages-hold : Typed s → byMessages s ≡ true → Mail s
   unfolding messagesSound
   messages-hold t passes =
       let l = messages s in
-      let few = leb-true (s .unread .count) limit (and-left (leb (s .unread .count) limit) _ passes) in
-      let pass = and-right (leb (s .unread .count) limit) _ passes in
+      let few = leb-true (s .unread .count) limit (both-left (leb (s .unread .count) limit) _ passes) in
+      let pass = both-right (leb (s .unread .count) limit) _ passes in
       let all = rises-fits messageTest pairOf number (replicate 256 0) l pass in
       let rising = rises-sorted messageTest pairOf number 256 has-cell l pass in
-      let named = every-wider messageTest isNamed (λ m h. and-left (isNamed m) _ h) l all in
+      let named = every-wider messageTest isNamed (λ m h. both-left (isNamed m) _ h) l all in
       record {
         few = few;
         counted = t .held few;
         named = named;
         ends-fit = every-wider messageTest (hasEnds s) (λ m h. fits-of m h .0) l all;
-        unheeded-places = every-wider messageTest (fitsUnheeded s) (λ m h. and-left (fitsUnheeded s m) _ (fits-of m h .1)) l all;
-        places-fit = every-wider messageTest (fitsPlace s) (λ m h. and-right (fitsUnheeded s m) _ (fits-of m h .1)) l all;
+        unheeded-places = every-wider messageTest (fitsUnheeded s) (λ m h. both-left (fitsUnheeded s m) _ (fits-of m h .1)) l all;
+        places-fit = every-wider messageTest (fitsPlace s) (λ m h. both-right (fitsUnheeded s m) _ (fits-of m h .1)) l all;
         places-rise = λ a b h k. rw (pair-is-cell a b k l named) at (rising (cell a b));
       }
 

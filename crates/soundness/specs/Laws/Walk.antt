@@ -5,8 +5,9 @@ use mathlib.Core.Bool.{Bool, true, false}
 use Prim.Native.Nat.{ℕ, _+_, _/_, _%_, _<_}
 use native.Mathlib.Numerals.{add-one}
 use native.Mathlib.Omega.{arith}
+use Rattle.transit.specs.Laws.Tests.{both}
 use Rattle.transit.specs.declared.Rank.{Rank}
-use Rattle.broker.specs.Laws.Logic.{both, not-both}
+use Rattle.broker.specs.Laws.Logic.{not-both}
 use Rattle.broker.specs.Laws.Ranks.{allBelow-at, allBelow-of, everyPair-at, everyPair-of}
 use Rattle.broker.specs.Ranks.{rank, allBelow, everyPair}
 use Rattle.broker.specs.State.{cell}

@@ -88,7 +88,7 @@ pub neverFalls-append : (l : List ℕ) (x : ℕ) → neverFalls l ≡ true → e
 neverFalls-append [] x sorted below = refl
 neverFalls-append (y ∷ l) x sorted below =
     let first : every (leb y) (l ++ x ∷ []) ≡ true = rw (every-append, both-left (every (leb y) l) _ sorted, both-left (leb y x) _ below) in
-    both (every (leb y) (l ++ x ∷ [])) _ first (neverFalls-append l x (both-right (every (leb y) l) _ sorted) (both-right (leb y x) _ below))
+    both first (neverFalls-append l x (both-right (every (leb y) l) _ sorted) (both-right (leb y x) _ below))
 
 -- A change that keeps the order of the numbers that occur keeps them from falling.
 pub neverFalls-map : (f : ℕ → ℕ) (p : ℕ → Bool) → ((x y : ℕ) → p x ≡ true → p y ≡ true → leb x y ≡ true → leb (f x) (f y) ≡ true)
@@ -98,7 +98,7 @@ neverFalls-map f p keeps (x ∷ l) occur sorted =
     let here = both-left (p x) _ occur in
     let others = both-right (p x) _ occur in
     let first = every-both p (leb x) (λ y. leb (f x) (f y)) (λ y h. keeps x y here h) l others (both-left (every (leb x) l) _ sorted) in
-    both (every (leb (f x)) (map f l)) _ (rw every-map first) (neverFalls-map f p keeps l others (both-right (every (leb x) l) _ sorted))
+    both {a = every (leb (f x)) (map f l)} (rw every-map first) (neverFalls-map f p keeps l others (both-right (every (leb x) l) _ sorted))
 
 -- Numbers of which one is left out still never fall.
 pub neverFalls-without : {A : Type 0} (f : A → ℕ) (q : A → Bool) (l : List A) → neverFalls (map f l) ≡ true → neverFalls (map f (without q l)) ≡ true
@@ -108,4 +108,4 @@ neverFalls-without f q (x ∷ l) sorted =
     let others = both-right (every (leb (f x)) (map f l)) _ sorted in
     by-test (q x)
     (λ e. rw e others)
-    (λ e. rw e (both (every (leb (f x)) (map f (without q l))) _ (rw every-map (every-without (λ y. leb (f x) (f y)) q l first)) (neverFalls-without f q l others)))
+    (λ e. rw e (both {a = every (leb (f x)) (map f (without q l))} (rw every-map (every-without (λ y. leb (f x) (f y)) q l first)) (neverFalls-without f q l others)))

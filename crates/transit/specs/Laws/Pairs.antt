@@ -53,7 +53,7 @@ other-pair a b c d differ m of-pair =
     (λ e.
     let senders = same-rank (m .sender) a c (from-sender a b m of-pair) (from-sender c d m e) in
     let receivers = same-rank (m .receiver) b d (to-receiver a b m of-pair) (to-receiver c d m e) in
-    e ∙ sym (both _ _ senders receivers) ∙ differ)
+    e ∙ sym (both senders receivers) ∙ differ)
     (λ e. e)
 
 -- A message has one receiver only.

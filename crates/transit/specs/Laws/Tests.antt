@@ -9,8 +9,8 @@ by-test true passes fails = passes refl
 by-test false passes fails = fails refl
 
 -- Two tests that pass, pass together.
-pub both : (a b : Bool) → a ≡ true → b ≡ true → (a && b) ≡ true
-both a b p q = rw p q
+pub both : {a b : Bool} → a ≡ true → b ≡ true → (a && b) ≡ true
+both p q = rw (p, q)
 
 -- Of two tests that pass together the first passes.
 pub both-left : (a b : Bool) → (a && b) ≡ true → a ≡ true

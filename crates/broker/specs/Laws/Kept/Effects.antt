@@ -3,7 +3,9 @@ use mathlib.Core.Path.{_≡_, refl, sym, ap, _∙_}
 use mathlib.Core.Bool.{Bool, true, false, cond, not, _&&_, _||_}
 use mathlib.Core.List.{List, [], _∷_}
 use Prim.Native.Nat.{ℕ, _+_, _<_}
+use borrow.Author.Tests.{not-true, not-false}
 use lib.ListN.{length, length-set, set}
+use Rattle.transit.specs.Laws.Tests.{both, both-left, both-right}
 use Rattle.transit.specs.Message.{sameRank}
 use Rattle.transit.specs.declared.Rank.{Rank}
 use Rattle.broker.specs.Connect.{connect, call, route, part, routeToEnded, routeThere, routeOn, withdraw, connectBoth}
@@ -13,7 +15,7 @@ use Rattle.broker.specs.Laws.Effect.{Effect, roleOf, roleBetween, roleOf
 use Rattle.broker.specs.Laws.Fit.{nothingWith, lives-as, runs-as, migrates-as, started-as}
 use Rattle.broker.specs.Laws.Leaving.{leftBy, facedBy, leaveAll-at, leaveAll-self}
 use Rattle.broker.specs.Laws.Links.{connect-long, await-long, connect-connection, connect-backlog, await-connection, await-backlog}
-use Rattle.broker.specs.Laws.Logic.{both, and-left, and-right, not-both, not-true, not-false, parts}
+use Rattle.broker.specs.Laws.Logic.{not-both, parts}
 use Rattle.broker.specs.Laws.Sound.{AtRanks, Facts, Pairs}
 use Rattle.broker.specs.Laws.State.{sameRank-eq, sameRank-self, sameRank-joins, status-with, request-with, status-with-request, request-with-status}
 use Rattle.broker.specs.Laws.View.{Standing, unstarted, running, migrating, ended, standing, hasStarted, runs, migrates, lives, Side, side, Role, forward, backward, outside, turn, Change}
@@ -229,7 +231,7 @@ module _ (s : State) (f : Facts s) where
           asked =
               λ x y hx hy d.
               by-first (λ x y. runs (x .stands) && hasStarted (y .stands) && isClosed (x .connection)) (side s x y) (side s y x) (sameRank x a && sameRank y b) (sameRank x b && sameRank y a)
-              (λ e. rw (sameRank-eq x a (and-left (sameRank x a) (sameRank y b) e), sameRank-eq y b (and-right (sameRank x a) (sameRank y b) e), runs-as (status s a), started-as (status s b), k .running, k .two .second-started, k .closed));
+              (λ e. rw (sameRank-eq x a (both-left (sameRank x a) (sameRank y b) e), sameRank-eq y b (both-right (sameRank x a) (sameRank y b) e), runs-as (status s a), started-as (status s b), k .running, k .two .second-started, k .closed));
         }
 
   module _ (a b : Rank) (k : RouteFits s a b) where
@@ -315,7 +317,7 @@ module _ (s : State) (f : Facts s) where
           asked =
               λ x y hx hy d.
               by-first (λ x y. isOpen (x .connection)) (side s x y) (side s y x) (sameRank x a && sameRank y b) (sameRank x b && sameRank y a)
-              (λ e. rw (sameRank-eq x a (and-left (sameRank x a) (sameRank y b) e), sameRank-eq y b (and-right (sameRank x a) (sameRank y b) e)) (k .plain));
+              (λ e. rw (sameRank-eq x a (both-left (sameRank x a) (sameRank y b) e), sameRank-eq y b (both-right (sameRank x a) (sameRank y b) e)) (k .plain));
         }
 
     pub part-self : AtRanks (nothingWith (part a b s .state))
@@ -383,7 +385,7 @@ module _ (s : State) (f : Facts s) where
           asked =
               λ x y hx hy d.
               by-first (λ x y. x .asks && lives (y .stands)) (side s x y) (side s y x) (sameRank x a && sameRank y b) (sameRank x b && sameRank y a)
-              (λ e. rw (sameRank-eq x a (and-left (sameRank x a) (sameRank y b) e), sameRank-eq y b (and-right (sameRank x a) (sameRank y b) e), lives-as (status s b), k .asks) (live-of (status s b) (k .two .second-started) living));
+              (λ e. rw (sameRank-eq x a (both-left (sameRank x a) (sameRank y b) e), sameRank-eq y b (both-right (sameRank x a) (sameRank y b) e), lives-as (status s b), k .asks) (live-of (status s b) (k .two .second-started) living));
         }
 
     pub route-there-self : AtRanks (nothingWith (routeThere a b v s .state))
@@ -419,7 +421,7 @@ module _ (s : State) (f : Facts s) where
           asked =
               λ x y hx hy d.
               by-first (λ x y. isClosing (x .connection)) (side s x y) (side s y x) (sameRank x b && sameRank y r) (sameRank x r && sameRank y b)
-              (λ e. rw (sameRank-eq x b (and-left (sameRank x b) (sameRank y r) e), sameRank-eq y r (and-right (sameRank x b) (sameRank y r) e)) (k .notice));
+              (λ e. rw (sameRank-eq x b (both-left (sameRank x b) (sameRank y r) e), sameRank-eq y r (both-right (sameRank x b) (sameRank y r) e)) (k .notice));
         }
 
     pub heed-self : AtRanks (nothingWith (heed b r s .state))
@@ -452,7 +454,7 @@ module _ (s : State) (f : Facts s) where
           asked =
               λ x y hx hy d.
               by-first (λ x y. not (isUnheeded (x .backlog))) (side s x y) (side s y x) (sameRank x r && sameRank y p) (sameRank x p && sameRank y r)
-              (λ e. rw (sameRank-eq x r (and-left (sameRank x r) (sameRank y p) e), sameRank-eq y p (and-right (sameRank x r) (sameRank y p) e), ready));
+              (λ e. rw (sameRank-eq x r (both-left (sameRank x r) (sameRank y p) e), sameRank-eq y p (both-right (sameRank x r) (sameRank y p) e), ready));
         }
 
     pub clear-self : AtRanks (nothingWith (withLinks (await r p Clear (s .links)) s))

@@ -8,6 +8,7 @@ use native.Mathlib.Omega.{arith}
 use borrow.Author.Tests.{lt-ltb}
 use lib.Dec.{eqb}
 use lib.ListN.{getD, set}
+use Rattle.transit.specs.Laws.Tests.{both, both-right}
 use Rattle.transit.specs.Lists.{every}
 use Rattle.transit.specs.Laws.Lists.{every-wider}
 use Rattle.transit.specs.Message.{sameRank}
@@ -19,7 +20,6 @@ use Rattle.broker.specs.Laws.Cases.{chosen, chosen-at, first-wider, rout
 use Rattle.broker.specs.Laws.Checks.{Passes}
 use Rattle.broker.specs.Laws.Each.{long-set, announced-own, announced-other}
 use Rattle.broker.specs.Laws.Kept.Shape.{shape-with-locations, shape-with-drawn, shape-connect, shape-withdraw}
-use Rattle.broker.specs.Laws.Logic.{both, and-right}
 use Rattle.broker.specs.Laws.Names.{eqb-swap, sameVmid-swap, noneShared-swap, next-apart, drawn-after, still-drawn, next-drawn, endpoint-in, processes-in, processes-all, ofCall-wider}
 use Rattle.broker.specs.Laws.Sound.{Shape, Names, Facts}
 use Rattle.broker.specs.Laws.State.{sameRank-eq, sameRank-self, cell-set, status-with, request-with-status, request-with, status-with-request}
@@ -94,7 +94,7 @@ module _ {s : State} (f : Shape s) (n : Names s) where
             λ p q hp hq.
             rw (cell-set (s .locations) a b p q v unknown (f .locations-long) ha hb hq)
             (chosen (fits q) (sameRank p a && sameRank q b) v (location s p q)
-            (λ e. rw (sameRank-eq q b (and-right (sameRank p a) (sameRank q b) e), started) drawn)
+            (λ e. rw (sameRank-eq q b (both-right (sameRank p a) (sameRank q b) e), started) drawn)
             (λ _. n .tables-drawn p q hp hq));
         vmids-apart = n .vmids-apart;
       }

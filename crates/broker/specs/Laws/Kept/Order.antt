@@ -14,7 +14,7 @@ use Rattle.transit.specs.Unread.{Unread, limit, counted, appended, head, firstS
 use Rattle.transit.specs.Laws.Lists.{every-always, every-both, every-wider, every-append, every-map, every-without, every-changeEach, every-changeFirst, every-selected, without-other, without-same, changeEach-keeps, map-follows, changeFirst-same, changeFirst-other}
 use Rattle.transit.specs.Laws.Order.{place-below-four, neverFalls-append, neverFalls-map, neverFalls-without}
 use Rattle.transit.specs.Laws.Pairs.{places, append-length, append-places, append-keeps-places, firstTo-length}
-use Rattle.transit.specs.Laws.Tests.{by-test}
+use Rattle.transit.specs.Laws.Tests.{by-test, both, both-left, both-right}
 use Rattle.transit.specs.declared.Found.{Found}
 use Rattle.transit.specs.declared.Found.the-variants.{First, Nothing}
 use Rattle.transit.specs.declared.Message.{Message}
@@ -25,7 +25,7 @@ use Rattle.transit.specs.declared.Selection.the-variants.{ToAt, Between, Betwee
 use Rattle.broker.specs.Connect.{call, connectBoth, withdraw, route, onChannel, part}
 use Rattle.broker.specs.Laws.Accepted.{running-not-migrating, Two, SendFits, send-fits, move-fits, land-fits}
 use Rattle.broker.specs.Laws.Checks.{Passes}
-use Rattle.broker.specs.Laws.Logic.{both, and-left, and-right, or-right}
+use Rattle.broker.specs.Laws.Logic.{or-right}
 use Rattle.broker.specs.Laws.Rising.{every-chosen, without-shorter, neverFalls-changeFirst}
 use Rattle.broker.specs.Laws.Sound.{AtPairs, Facts, isNamed, fitsUnheeded, fitsPlace}
 use Rattle.broker.specs.Laws.State.{sameRank-eq}
@@ -60,11 +60,11 @@ same-as-true false h = h
 
 -- A message of a pair is from its sender.
 sender-of : (a b : Rank) (m : Message) → between a b m ≡ true → m .sender ≡ a
-sender-of a b m h = sameRank-eq (m .sender) a (and-left (sameRank (m .sender) a) (to b m) h)
+sender-of a b m h = sameRank-eq (m .sender) a (both-left (sameRank (m .sender) a) (to b m) h)
 
 -- A message of a pair is to its receiver.
 receiver-of : (a b : Rank) (m : Message) → between a b m ≡ true → m .receiver ≡ b
-receiver-of a b m h = sameRank-eq (m .receiver) b (and-right (sameRank (m .sender) a) (to b m) h)
+receiver-of a b m h = sameRank-eq (m .receiver) b (both-right (sameRank (m .sender) a) (to b m) h)
 
 -- A test of sender and receiver answers alike for all messages of a pair.
 of-pair : (scope : Rank → Rank → Bool) (a b : Rank) (m : Message) → between a b m ≡ true → scope (m .sender) (m .receiver) ≡ scope a b
@@ -84,7 +84,7 @@ standing a b p m = between a b m && at p m
 
 -- Such a message is of another pair exactly where the two pairs are the same.
 standing-of : (a b : Rank) (p : Place) (c d : Rank) (m : Message) → standing a b p m ≡ true → between c d m ≡ pair c d a b
-standing-of a b p c d m h = of-pair (pair c d) a b m (and-left (between a b m) (at p m) h)
+standing-of a b p c d m h = of-pair (pair c d) a b m (both-left (between a b m) (at p m) h)
 
 module _ (u : Unread) (o : InOrder u) where
   -- A message is added, at a place that none of its pair is past.
@@ -148,9 +148,9 @@ module _ (u : Unread) (o : InOrder u) where
 
       above : (c d : Rank) (x y : Message) → between c d x ≡ true → between c d y ≡ true → on-lane x ≡ false → on-lane y ≡ true → number x ≤ number y → number x ≤ 0
       above c d x y is-x is-y off on before =
-          let mine : between a b x ≡ true = of-pair (pair a b) c d x is-x ∙ sym (of-pair (pair a b) c d y is-y) ∙ and-left (between a b y) (at SourceChannel y) on in
+          let mine : between a b x ≡ true = of-pair (pair a b) c d x is-x ∙ sym (of-pair (pair a b) c d y is-y) ∙ both-left (between a b y) (at SourceChannel y) on in
           let elsewhere : eqb (number x) 1 ≡ false = rw mine at off in
-          omega (arith, eqb-false (number x) 1 elsewhere, eqb-true (number y) 1 (and-right (between a b y) (at SourceChannel y) on))
+          omega (arith, eqb-false (number x) 1 elsewhere, eqb-true (number y) 1 (both-right (between a b y) (at SourceChannel y) on))
 
 -- the number is not strictly between f and o: past f it is not before o, and before f it is not past o
 abbrev outside : ℕ → ℕ → ℕ → Bool
@@ -170,12 +170,12 @@ shifted-rises true f o x y out-x out-y le =
     (λ ey. rw (ex, ey) (le-leb o o (omega arith)))
     (λ ey.
     let past : leb y f ≡ false = lt-leb y f (omega (arith, leb-true x y le, eqb-true x f ex, eqb-false y f ey)) in
-    rw (ex, ey) (rw past at (and-left (leb y f || leb o y) (leb f y || leb y o) out-y))))
+    rw (ex, ey) (rw past at (both-left (leb y f || leb o y) (leb f y || leb y o) out-y))))
     (λ ex.
     by-test (eqb y f)
     (λ ey.
     let before : leb f x ≡ false = lt-leb f x (omega (arith, leb-true x y le, eqb-true y f ey, eqb-false x f ex)) in
-    rw (ex, ey) (rw before at (and-right (leb x f || leb o x) (leb f x || leb x o) out-x)))
+    rw (ex, ey) (rw before at (both-right (leb x f || leb o x) (leb f x || leb x o) out-x)))
     (λ ey. rw (ex, ey) le))
 
 module _ (scope : Rank → Rank → Bool) (from onto : Place) where
@@ -264,7 +264,7 @@ lineFits s m = not (at Channel m) || not (isClosed (connection s (m .receiver) (
 
 -- The first two of the three.
 source-and-lane : (s : State) (m : Message) → fitsPlace s m ≡ true → (sourceFits s m && laneFits s m) ≡ true
-source-and-lane s m h = and-left (sourceFits s m && laneFits s m) (lineFits s m) h
+source-and-lane s m h = both-left (sourceFits s m && laneFits s m) (lineFits s m) h
 
 -- What is at one of the mover's places is not past the lane to the mover.
 up-to-lane : (p : Place) → (samePlace p SourceList || samePlace p SourceChannel) ≡ true → leb (placeNumber p) 1 ≡ true
@@ -346,7 +346,7 @@ module _ (s : State) (f : Facts s) where
       (λ m h.
       if-so (to r m) (outside 2 0 (number m)) λ is.
       off-source (m .place)
-      (rw (sameRank-eq (m .receiver) r is, running-not-migrating (status s r) running) at (and-left (sourceFits s m) (laneFits s m) (source-and-lane s m h))))
+      (rw (sameRank-eq (m .receiver) r is, running-not-migrating (status s r) running) at (both-left (sourceFits s m) (laneFits s m) (source-and-lane s m h))))
       (messages s) (f .mail .places-fit))
       in
       relabel-keeps (onlyTo r) Channel SourceChannel (relabelAll (ToAt r EndList) SourceList (s .unread)) lists
@@ -361,11 +361,11 @@ module _ (s : State) (f : Facts s) where
       relabel-keeps (onlyTo r) SourceList EndList (s .unread) facts-order
       (every-both isNamed (fitsPlace s) (aside (onlyTo r) SourceList EndList)
       (λ m name h.
-      let ranks = and-left (isRank (m .sender) && isRank (m .receiver)) (not (sameRank (m .sender) (m .receiver))) name in
-      let sender = ltb-true (m .sender .0) 16 (and-left (isRank (m .sender)) (isRank (m .receiver)) ranks) in
+      let ranks = both-left (isRank (m .sender) && isRank (m .receiver)) (not (sameRank (m .sender) (m .receiver))) name in
+      let sender = ltb-true (m .sender .0) 16 (both-left (isRank (m .sender)) (isRank (m .receiver)) ranks) in
       if-so (to r m) (outside 0 2 (number m)) λ is.
       off-lane (m .place)
-      (rw (sameRank-eq (m .receiver) r is, clear (m .sender) sender) at (and-right (sourceFits s m) (laneFits s m) (source-and-lane s m h))))
+      (rw (sameRank-eq (m .receiver) r is, clear (m .sender) sender) at (both-right (sourceFits s m) (laneFits s m) (source-and-lane s m h))))
       (messages s) (f .mail .named) (f .mail .places-fit))
 
   -- Each kind keeps the facts.

@@ -8,6 +8,7 @@ use borrow.Author.Tests.{eqb-true, lt-ltb}
 use lib.Dec.{T, eqb}
 use lib.ListN.{length}
 use Rattle.transit.specs.Laws.Lists.{every-always, every-append, every-changeFirst, every-without, every-wider}
+use Rattle.transit.specs.Laws.Tests.{both, both-left, both-right}
 use Rattle.transit.specs.Lists.{every, changeEach, changeFirst, select, tally}
 use Rattle.transit.specs.Message.{sameRank, relabelled, picks, at as at-place, between, samePlace, to, placeOrder}
 use Rattle.transit.specs.Unread.{Unread, limit, relabelFirst, firstSent, appended, removed, head, leave}
@@ -27,7 +28,7 @@ use Rattle.broker.specs.Laws.Checks.{Passes}
 use Rattle.broker.specs.Laws.Effect.{Effect, roleOf, roleBetween, pairs-stay, message-stays}
 use Rattle.broker.specs.Laws.Fit.{guarded, at-side, at-pair, fits, pair-fits, messages-fit, every-and, nothingWith, runs-as}
 use Rattle.broker.specs.Laws.Kept.Effects
-use Rattle.broker.specs.Laws.Logic.{both, and-left, and-right, not-both, true-of}
+use Rattle.broker.specs.Laws.Logic.{not-both, true-of}
 use Rattle.broker.specs.Laws.Sound.{Facts, Pairs, isNamed}
 use Rattle.broker.specs.Laws.View.{Role, forward, backward, outside, Side, side, runs, Change, keeps, pairFits, messageFits, atSides, atPairs}
 use Rattle.broker.specs.Life.{start, end}
@@ -50,7 +51,7 @@ pub record Views (s : State) : Type 0 where
 every-changed : (p q : Message → Bool) (f : Message → Message) (l : List Message) → ((m : Message) → p m ≡ true → q (f m) ≡ true) → every p l ≡ true → every q (map f l) ≡ true
 every-changed p q f [] h k = refl
 every-changed p q f (m ∷ ms) h k =
-    both (h m (and-left (p m) (every p ms) k)) (every-changed p q f ms h (and-right (p m) (every p ms) k))
+    both (h m (both-left (p m) (every p ms) k)) (every-changed p q f ms h (both-right (p m) (every p ms) k))
 
 -- the messages of a state as they are known: named, and fit
 abbrev known : State → Message → Bool
@@ -170,13 +171,13 @@ module _ (s s' : State) (c : Change) (role : Rank → Rank → Role) (kept : T (
   placedAnew m = relabelled (c .place (role (m .receiver) (m .sender)) (m .place)) m
 
   fit-anew : (m : Message) → known s m ≡ true → c .askedOf (role (m .receiver) (m .sender)) (m .place) ≡ true → fits s' (placedAnew m) ≡ true
-  fit-anew m h a = message-stays s s' c role kept (f .pairs) e m (and-left (isNamed m) (fits s m) h) (and-right (isNamed m) (fits s m) h) a
+  fit-anew m h a = message-stays s s' c role kept (f .pairs) e m (both-left (isNamed m) (fits s m) h) (both-right (isNamed m) (fits s m) h) a
 
   views-of : ((r : Rank) → r .0 < 16 → nothingWith s' r ≡ true) → (g : Message → Message) → messages s' ≡ map g (messages s) → ((m : Message) → g m ≡ placedAnew m) → every (λ m. c .askedOf (role (m .receiver) (m .sender)) (m .place)) (messages s) ≡ true → Views s'
   views-of self g list same asked =
       record {
         pairs = pairs-stay s s' c role kept (f .pairs) e self;
-        placed = rw list (every-changed (λ m. known s m && c .askedOf (role (m .receiver) (m .sender)) (m .place)) (fits s') g (messages s) (λ m h. rw (same m) (fit-anew m (and-left (known s m) (c .askedOf (role (m .receiver) (m .sender)) (m .place)) h) (and-right (known s m) (c .askedOf (role (m .receiver) (m .sender)) (m .place)) h))) (every-and (known s) (λ m. c .askedOf (role (m .receiver) (m .sender)) (m .place)) (messages s) (all-known s f) asked));
+        placed = rw list (every-changed (λ m. known s m && c .askedOf (role (m .receiver) (m .sender)) (m .place)) (fits s') g (messages s) (λ m h. rw (same m) (fit-anew m (both-left (known s m) (c .askedOf (role (m .receiver) (m .sender)) (m .place)) h) (both-right (known s m) (c .askedOf (role (m .receiver) (m .sender)) (m .place)) h))) (every-and (known s) (λ m. c .askedOf (role (m .receiver) (m .sender)) (m .place)) (messages s) (all-known s f) asked));
       }
 
   -- the same, where no message changes
@@ -372,7 +373,7 @@ module _ (s : State) (f : Facts s) where
   views-drain r p k = at (firstSent (onSourceChannel p r) (s .unread)) refl
     where
       drained : (m : Message) → fits s m ≡ true → (between p r m && at-place SourceChannel m) ≡ true → fits s (relabelled SourceList m) ≡ true
-      drained m g h = drained-fits (side s (m .receiver) (m .sender)) (side s (m .sender) (m .receiver)) (m .place) (and-right (between p r m) (at-place SourceChannel m) h) g
+      drained m g h = drained-fits (side s (m .receiver) (m .sender)) (side s (m .sender) (m .receiver)) (m .place) (both-right (between p r m) (at-place SourceChannel m) h) g
 
       elsewhere : (i j q : Bool) (x : Place) → not (i && j && samePlace x SourceChannel) ≡ true → byRole (λ x. not (samePlace x SourceChannel)) anyMessage anyMessage (cond (j && i) forward (cond q backward outside)) x ≡ true
       elsewhere true true q x h = h

@@ -9,11 +9,11 @@ use borrow.Author.Needs.{needs}
 use borrow.Author.Tests.{not-true, not-false, le-leb, lt-leb}
 use lib.ListN.{length, drop, replicate, getD, length-set, drop-of-length-le}
 use Rattle.transit.specs.Laws.Slots.{read-slot}
+use Rattle.transit.specs.Laws.Tests.{both}
 use Rattle.transit.specs.Message.{number}
 use Rattle.transit.specs.Unread.{view}
 use Rattle.transit.specs.declared.Message.{Message}
 use Rattle.transit.specs.declared.Place.the-variants.{SourceList}
-use Rattle.broker.specs.Laws.Logic.{both}
 use Rattle.broker.specs.Laws.Sound.{isNamed}
 use Rattle.soundness.specs.Laws.Messages.{sender-inside, receiver-inside, pair-inside}
 use Rattle.soundness.specs.Laws.Rising.{rises-unfit, rises-falls, rises-next}
