@@ -17,6 +17,7 @@ pub mod Links
 pub mod Logic
 pub mod Migrating
 pub mod Names
+pub mod Opened
 pub mod Quiet
 pub mod Ranks
 pub mod Rising

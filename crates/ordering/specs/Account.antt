@@ -5,17 +5,12 @@ use mathlib.Core.List.{List, [], _∷_, _++_}
 use Prim.Native.Nat.{ℕ}
 use lib.ListN.{getD}
 use Rattle.broker.specs.Answer.{number, values}
-use Rattle.broker.specs.Checks
-use Rattle.broker.specs.Connect
+use Rattle.broker.specs.Laws.Opened.{opened}
 use Rattle.broker.specs.Laws.Step.{step-of-sound, step-keeps-sound}
-use Rattle.broker.specs.Life
-use Rattle.broker.specs.Messages
-use Rattle.broker.specs.Migrate
-use Rattle.broker.specs.Ranks.{everyRank, everyPair, countRanks, eachRank}
 use Rattle.broker.specs.Record.{decode}
 use Rattle.broker.specs.Sound.{sound}
 use Rattle.broker.specs.State.{State, fresh}
-use Rattle.broker.specs.Step.{Outcome, stepSound, settle, apply}
+use Rattle.broker.specs.Step.{Outcome, stepSound}
 use Rattle.ordering.specs.Claim.{Reading, Entry, stepAt, after, isAccepted, everyAccepted, entryOf, accepted}
 use Rattle.ordering.specs.Runs.{fresh-sound}
 
@@ -61,10 +56,10 @@ ahead x o t =
       end = t .end;
     }
 
--- the same in one pass, without the test of soundness
 abbrev soundStepAt : State → Reading → Outcome
 soundStepAt s x = stepSound (x .named) s (x .log) (x .at)
 
+-- an account in one pass, without the test of soundness
 abbrev soundAccount : State → List Reading → Account
 soundAccount s [] = account s []
 soundAccount s (x ∷ xs) = ahead x (soundStepAt s x) (soundAccount (soundStepAt s x .state) xs)
@@ -82,7 +77,7 @@ sound-account s (x ∷ xs) h =
 
 -- the account from the fresh state; where this is opened, all that a step computes with is open
 unfoldable pub computed : List Reading → Account
-unfolding stepSound settle apply decode Checks.refusal Checks.checks Checks.rankRange Checks.hostRange Checks.rankTwice Checks.notStarted Checks.alreadyStarted Checks.hasEnded Checks.firstMigrating Checks.notMigrating Checks.connected Checks.requestOpen Checks.noRequest Checks.notConnected Checks.peerMigrating Checks.noNotice Checks.sameHost Checks.backlogLeft Checks.noBacklog Checks.nothingToDrain Checks.nothingUnread Checks.unreadLeft Checks.full Checks.numbersSpent Life.announced Life.start Life.end Connect.call Connect.route Connect.part Messages.send Messages.take Messages.look Migrate.leaveAll Migrate.move Migrate.heed Migrate.drain Migrate.land everyRank everyPair countRanks eachRank
+unfolding opened
 computed xs = soundAccount fresh xs
 
 pub from-fresh : (xs : List Reading) → account fresh xs ≡ computed xs

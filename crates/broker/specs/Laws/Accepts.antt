@@ -1,30 +1,24 @@
 -- What is enough for a kind to be accepted: the facts of `Laws/Accepted`, read back as the rows of the table of checks.
 -- Assumes nothing.
 use mathlib.Core.Path.{_≡_}
-use mathlib.Core.Option.{Option, none}
+use mathlib.Core.Option.{none}
 use Prim.Native.Nat.{ℕ}
 use borrow.Author.Tests.{lt-ltb, lt-leb}
 use Rattle.transit.specs.declared.Rank.{Rank}
-use Rattle.broker.specs.Checks.{checks, refusal, rankRange, hostRange, rankTwice, notStarted, alreadyStarted, hasEnded, firstMigrating, notMigrating, connected, requestOpen, noRequest, notConnected, peerMigrating, noNotice, sameHost, backlogLeft, noBacklog, nothingToDrain, nothingUnread, unreadLeft, full, numbersSpent}
+use Rattle.broker.specs.Checks.{refusal}
 use Rattle.broker.specs.Laws.Accepted.{StartFits, CallFits, RouteFits, SendFits, TakeFits, MoveFits, LandFits, PartFits, EndFits, running-not-ended, running-not-migrating, migrating-not-ended, open-not-closed, open-not-closing}
+use Rattle.broker.specs.Laws.Opened.{openedChecks}
 use Rattle.broker.specs.Laws.Ranks.{everyRank-of}
 use Rattle.broker.specs.Names.{isClosed, isClear}
 use Rattle.broker.specs.State.{State, status, connection, backlog}
-use Rattle.broker.specs.declared.answer.Refusal.{Refusal}
-use Rattle.broker.specs.declared.record.Record.{Record}
 use Rattle.broker.specs.declared.record.Record.the-variants.{Start, Call, Route, Send, Take, Move, Land, Part, End}
 
--- the first row that applies, with every row open
-given : State → Record → Option Refusal
-unfolding refusal checks rankRange hostRange rankTwice notStarted alreadyStarted hasEnded firstMigrating notMigrating connected requestOpen noRequest notConnected peerMigrating noNotice sameHost backlogLeft noBacklog nothingToDrain nothingUnread unreadLeft full numbersSpent
-given s r = refusal s r
-
 pub start-accepted : (s : State) (r : Rank) (h : ℕ) → StartFits s r h → refusal s (Start r h) ≡ none
-unfolding given
+unfolding openedChecks
 start-accepted s r h f = simp (lt-ltb _ _ (f .in-range), lt-ltb _ _ (f .host), f .unstarted, lt-leb _ _ (f .room))
 
 pub call-accepted : (s : State) (a b : Rank) → CallFits s a b → refusal s (Call a b) ≡ none
-unfolding given
+unfolding openedChecks
 call-accepted s a b f =
     let two = f .two in
     simp (
@@ -40,7 +34,7 @@ call-accepted s a b f =
     )
 
 pub route-accepted : (s : State) (a b : Rank) → RouteFits s a b → refusal s (Route a b) ≡ none
-unfolding given
+unfolding openedChecks
 route-accepted s a b f =
     let two = f .two in
     simp (
@@ -53,7 +47,7 @@ route-accepted s a b f =
     )
 
 pub send-accepted : (s : State) (a b : Rank) (v : ℕ) → SendFits s a b → refusal s (Send a b v) ≡ none
-unfolding given
+unfolding openedChecks
 send-accepted s a b v f =
     let two = f .two in
     simp (
@@ -69,7 +63,7 @@ send-accepted s a b v f =
     )
 
 pub take-accepted : (s : State) (b a : Rank) → TakeFits s b a → refusal s (Take b a) ≡ none
-unfolding given
+unfolding openedChecks
 take-accepted s b a f =
     let two = f .two in
     simp (
@@ -84,7 +78,7 @@ take-accepted s b a f =
     )
 
 pub move-accepted : (s : State) (r : Rank) (h : ℕ) → MoveFits s r h → refusal s (Move r h) ≡ none
-unfolding given
+unfolding openedChecks
 move-accepted s r h f =
     simp (
       lt-ltb _ _ (f .one .in-range),
@@ -98,7 +92,7 @@ move-accepted s r h f =
     )
 
 pub land-accepted : (s : State) (r : Rank) → LandFits s r → refusal s (Land r) ≡ none
-unfolding given
+unfolding openedChecks
 land-accepted s r f =
     simp (
       lt-ltb _ _ (f .one .in-range),
@@ -109,7 +103,7 @@ land-accepted s r f =
     )
 
 pub part-accepted : (s : State) (a b : Rank) → PartFits s a b → refusal s (Part a b) ≡ none
-unfolding given
+unfolding openedChecks
 part-accepted s a b f =
     let two = f .two in
     simp (
@@ -125,7 +119,7 @@ part-accepted s a b f =
     )
 
 pub end-accepted : (s : State) (r : Rank) → EndFits s r → refusal s (End r) ≡ none
-unfolding given
+unfolding openedChecks
 end-accepted s r f =
     simp (
       lt-ltb _ _ (f .one .in-range),

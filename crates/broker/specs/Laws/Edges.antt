@@ -6,19 +6,14 @@ use lib.Dec.{T, eqb}
 use Rattle.transit.specs.Laws.Lists.{every-wider}
 use Rattle.transit.specs.Lists.{every}
 use Rattle.broker.specs.Answer.{number}
-use Rattle.broker.specs.Checks
-use Rattle.broker.specs.Connect
 use Rattle.broker.specs.Edges.{Try, Edge, plays, edges, holds}
 use Rattle.broker.specs.Laws.Logic.{true-of}
+use Rattle.broker.specs.Laws.Opened.{opened}
 use Rattle.broker.specs.Laws.Step.{step-of-sound, step-keeps-sound}
-use Rattle.broker.specs.Life
-use Rattle.broker.specs.Messages
-use Rattle.broker.specs.Migrate
-use Rattle.broker.specs.Ranks.{rank, everyRank, everyPair, countRanks, eachRank}
-use Rattle.broker.specs.Record.{decode}
+use Rattle.broker.specs.Ranks.{rank, everyRank, everyPair}
 use Rattle.broker.specs.Sound
 use Rattle.broker.specs.State.{State, fresh}
-use Rattle.broker.specs.Step.{Outcome, step, stepSound, settle, apply}
+use Rattle.broker.specs.Step.{Outcome, step, stepSound}
 
 pub fresh-is-sound : T (Sound.sound fresh)
 unfolding Sound.sound Sound.shaped Sound.namesSound Sound.numbersInRange Sound.vmidsDrawn Sound.callsDrawn Sound.tablesDrawn Sound.vmidsApart Sound.pairsSound Sound.nothingWithSelf Sound.linesBelong Sound.plainBothSides Sound.noticeFacesNone Sound.awaitsBelong Sound.unheededIsNotice Sound.callsFit Sound.messagesSound Sound.fewUnread Sound.messagesNamed Sound.endsFit Sound.unheededPlaces Sound.placesFit Sound.placesRise everyRank everyPair
@@ -38,7 +33,7 @@ abbrev holdsSound : Edge → Bool
 holdsSound e = plays (λ s log. stepSound (rank 0) s log 0) (e .steps) (e .then) fresh
 
 edges-computed : every holdsSound edges ≡ true
-unfolding edges stepSound settle apply decode Checks.refusal Checks.checks Checks.rankRange Checks.hostRange Checks.rankTwice Checks.notStarted Checks.alreadyStarted Checks.hasEnded Checks.firstMigrating Checks.notMigrating Checks.connected Checks.requestOpen Checks.noRequest Checks.notConnected Checks.peerMigrating Checks.noNotice Checks.sameHost Checks.backlogLeft Checks.noBacklog Checks.nothingToDrain Checks.nothingUnread Checks.unreadLeft Checks.full Checks.numbersSpent Life.announced Life.start Life.end Connect.call Connect.route Connect.part Messages.send Messages.take Messages.look Migrate.leaveAll Migrate.move Migrate.heed Migrate.drain Migrate.land everyRank everyPair countRanks eachRank
+unfolding edges opened
 edges-computed = refl
 
 pub edges-hold : every holds edges ≡ true

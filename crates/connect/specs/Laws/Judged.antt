@@ -3,7 +3,8 @@
 use mathlib.Core.Bool.{and-true, or-false}
 use mathlib.Core.Path.{_≡_}
 use Rattle.transit.specs.declared.Rank.{Rank}
-use Rattle.broker.specs.Checks.{checks, refusal, rankRange, hostRange, rankTwice, notStarted, alreadyStarted, hasEnded, firstMigrating, notMigrating, connected, requestOpen, noRequest, notConnected, peerMigrating, noNotice, sameHost, backlogLeft, noBacklog, nothingToDrain, nothingUnread, unreadLeft, full, numbersSpent}
+use Rattle.broker.specs.Checks.{refusal}
+use Rattle.broker.specs.Laws.Opened.{openedChecks}
 use Rattle.broker.specs.State.{State, process, linkAt}
 use Rattle.broker.specs.declared.record.Record.the-variants.{Call, Route, Part}
 use Rattle.checks.specs.Laws.Verdict.{judged-first}
@@ -17,7 +18,7 @@ pub record Judged (s : State) : Type 0 where
   pub part : (a b : Rank) → refusal s (Part a b) ≡ judged passed (partTests a b (process s a) (process s b) (linkAt (s .links) a b))
 
 pub by-tests : (s : State) → Judged s
-unfolding refusal checks rankRange hostRange rankTwice notStarted alreadyStarted hasEnded firstMigrating notMigrating connected requestOpen noRequest notConnected peerMigrating noNotice sameHost backlogLeft noBacklog nothingToDrain nothingUnread unreadLeft full numbersSpent
+unfolding openedChecks
 by-tests s =
     record {
       call = λ a b. rw judged-first (simp (and-true, or-false));

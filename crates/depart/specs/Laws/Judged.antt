@@ -3,7 +3,8 @@ use mathlib.Core.Bool.{and-true, or-false}
 use mathlib.Core.Path.{_≡_}
 use Prim.Native.Nat.{ℕ}
 use Rattle.transit.specs.declared.Rank.{Rank}
-use Rattle.broker.specs.Checks.{checks, refusal, rankRange, hostRange, rankTwice, notStarted, alreadyStarted, hasEnded, firstMigrating, notMigrating, connected, requestOpen, noRequest, notConnected, peerMigrating, noNotice, sameHost, backlogLeft, noBacklog, nothingToDrain, nothingUnread, unreadLeft, full, numbersSpent}
+use Rattle.broker.specs.Checks.{refusal}
+use Rattle.broker.specs.Laws.Opened.{openedChecks}
 use Rattle.broker.specs.State.{State, process, drawnOn}
 use Rattle.broker.specs.declared.record.Record.the-variants.{Move}
 use Rattle.checks.specs.Laws.Verdict.{judged-first}
@@ -12,5 +13,5 @@ use Rattle.depart.specs.Tests.{moveTests}
 
 -- its refusal, by its tests at the parts of a state
 pub by-tests : (s : State) (r : Rank) (h : ℕ) → refusal s (Move r h) ≡ judged passed (moveTests r h (process s r) (drawnOn s h))
-unfolding refusal checks rankRange hostRange rankTwice notStarted alreadyStarted hasEnded firstMigrating notMigrating connected requestOpen noRequest notConnected peerMigrating noNotice sameHost backlogLeft noBacklog nothingToDrain nothingUnread unreadLeft full numbersSpent
+unfolding openedChecks
 by-tests s r h = rw judged-first (simp (and-true, or-false))

@@ -8,7 +8,8 @@ use Rattle.transit.specs.Laws.Removed.{removed-found}
 use Rattle.transit.specs.Unread.{firstSent}
 use Rattle.transit.specs.declared.Rank.{Rank}
 use Rattle.transit.specs.declared.Selection.the-variants.{To}
-use Rattle.broker.specs.Checks.{checks, refusal, rankRange, hostRange, rankTwice, notStarted, alreadyStarted, hasEnded, firstMigrating, notMigrating, connected, requestOpen, noRequest, notConnected, peerMigrating, noNotice, sameHost, backlogLeft, noBacklog, nothingToDrain, nothingUnread, unreadLeft, full, numbersSpent}
+use Rattle.broker.specs.Checks.{refusal}
+use Rattle.broker.specs.Laws.Opened.{openedChecks}
 use Rattle.broker.specs.Messages.{afterTake}
 use Rattle.broker.specs.State.{State, status, connection}
 use Rattle.broker.specs.declared.record.Record.the-variants.{Send, Take, Look}
@@ -24,7 +25,7 @@ pub record Judged (s : State) : Type 0 where
   pub look : (r : Rank) → refusal s (Look r) ≡ judged passed (lookTests r (status s r) (firstSent (To r) (s .unread)))
 
 pub by-tests : (s : State) → Judged s
-unfolding refusal checks rankRange hostRange rankTwice notStarted alreadyStarted hasEnded firstMigrating notMigrating connected requestOpen noRequest notConnected peerMigrating noNotice sameHost backlogLeft noBacklog nothingToDrain nothingUnread unreadLeft full numbersSpent
+unfolding openedChecks
 by-tests s =
     record {
       send = λ a b v. rw judged-first (simp (and-true, or-false));

@@ -5,7 +5,8 @@ use Prim.Native.Nat.{ℕ}
 use Rattle.transit.specs.Lists.{tally}
 use Rattle.transit.specs.Message.{to}
 use Rattle.transit.specs.declared.Rank.{Rank}
-use Rattle.broker.specs.Checks.{checks, refusal, rankRange, hostRange, rankTwice, notStarted, alreadyStarted, hasEnded, firstMigrating, notMigrating, connected, requestOpen, noRequest, notConnected, peerMigrating, noNotice, sameHost, backlogLeft, noBacklog, nothingToDrain, nothingUnread, unreadLeft, full, numbersSpent}
+use Rattle.broker.specs.Checks.{refusal}
+use Rattle.broker.specs.Laws.Opened.{openedChecks}
 use Rattle.broker.specs.Names.{isClosed}
 use Rattle.broker.specs.Ranks.{everyRank}
 use Rattle.broker.specs.State.{State, process, status, linkAt, drawnOn, messages}
@@ -20,7 +21,7 @@ pub record Judged (s : State) : Type 0 where
   pub end : (r : Rank) → refusal s (End r) ≡ judged passed (endTests r (process s r) (everyRank (λ p. isClosed (linkAt (s .links) r p .connection))) (tally (to r) (messages s)))
 
 pub by-tests : (s : State) → Judged s
-unfolding refusal checks rankRange hostRange rankTwice notStarted alreadyStarted hasEnded firstMigrating notMigrating connected requestOpen noRequest notConnected peerMigrating noNotice sameHost backlogLeft noBacklog nothingToDrain nothingUnread unreadLeft full numbersSpent
+unfolding openedChecks
 by-tests s =
     record {
       start = λ r h. rw judged-first (simp (and-true, or-false));

@@ -4,7 +4,8 @@ use mathlib.Core.Bool.{and-true, or-false}
 use mathlib.Core.Path.{_≡_}
 use Rattle.transit.specs.Unread.{firstSent}
 use Rattle.transit.specs.declared.Rank.{Rank}
-use Rattle.broker.specs.Checks.{checks, refusal, rankRange, hostRange, rankTwice, notStarted, alreadyStarted, hasEnded, firstMigrating, notMigrating, connected, requestOpen, noRequest, notConnected, peerMigrating, noNotice, sameHost, backlogLeft, noBacklog, nothingToDrain, nothingUnread, unreadLeft, full, numbersSpent}
+use Rattle.broker.specs.Checks.{refusal}
+use Rattle.broker.specs.Laws.Opened.{openedChecks}
 use Rattle.broker.specs.Migrate.{onSourceChannel}
 use Rattle.broker.specs.Names.{isClear}
 use Rattle.broker.specs.State.{State, status, connection, backlog}
@@ -23,7 +24,7 @@ pub record Judged (s : State) : Type 0 where
   pub land : (r : Rank) → refusal s (Land r) ≡ judged passed (landTests r (status s r) (awaitsOf r (s .links)))
 
 pub by-tests : (s : State) → Judged s
-unfolding refusal checks rankRange hostRange rankTwice notStarted alreadyStarted hasEnded firstMigrating notMigrating connected requestOpen noRequest notConnected peerMigrating noNotice sameHost backlogLeft noBacklog nothingToDrain nothingUnread unreadLeft full numbersSpent
+unfolding openedChecks
 by-tests s =
     record {
       heed = λ b r. rw judged-first (simp (and-true, or-false));

@@ -1,0 +1,26 @@
+-- What a step computes with, to open in a computed theorem. Assumes nothing.
+use mathlib.Core.List.{List}
+use mathlib.Core.Option.{Option}
+use Prim.Native.Nat.{ℕ}
+use Rattle.transit.specs.declared.Rank.{Rank}
+use Rattle.broker.specs.Checks
+use Rattle.broker.specs.Connect
+use Rattle.broker.specs.Life
+use Rattle.broker.specs.Messages
+use Rattle.broker.specs.Migrate
+use Rattle.broker.specs.Ranks.{everyRank, everyPair, countRanks, eachRank}
+use Rattle.broker.specs.Record.{decode}
+use Rattle.broker.specs.State.{State}
+use Rattle.broker.specs.Step.{Outcome, stepSound, settle, apply}
+use Rattle.broker.specs.declared.answer.Refusal.{Refusal}
+use Rattle.broker.specs.declared.record.Record.{Record}
+
+-- the refusal of a record; where this is opened, every row of the table of checks is open
+unfoldable pub openedChecks : State → Record → Option Refusal
+unfolding Checks.refusal Checks.checks Checks.rankRange Checks.hostRange Checks.rankTwice Checks.notStarted Checks.alreadyStarted Checks.hasEnded Checks.firstMigrating Checks.notMigrating Checks.connected Checks.requestOpen Checks.noRequest Checks.notConnected Checks.peerMigrating Checks.noNotice Checks.sameHost Checks.backlogLeft Checks.noBacklog Checks.nothingToDrain Checks.nothingUnread Checks.unreadLeft Checks.full Checks.numbersSpent
+openedChecks s r = Checks.refusal s r
+
+-- a step of a sound state; where this is opened, all that it computes with is open
+unfoldable pub opened : Rank → State → List ℕ → ℕ → Outcome
+unfolding stepSound settle apply decode openedChecks Life.announced Life.start Life.end Connect.call Connect.route Connect.part Messages.send Messages.take Messages.look Migrate.leaveAll Migrate.move Migrate.heed Migrate.drain Migrate.land everyRank everyPair countRanks eachRank
+opened named s log at = stepSound named s log at
