@@ -1,4 +1,4 @@
--- What a step computes with, to open in a computed theorem. Assumes nothing.
+-- What a step and its checks are defined by, each to open in a proof by one name. Assumes nothing.
 use mathlib.Core.List.{List}
 use mathlib.Core.Option.{Option}
 use Prim.Native.Nat.{ℕ}
