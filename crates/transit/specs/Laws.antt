@@ -1,10 +1,24 @@
 -- The laws of the definitions, which the proofs of this crate and of those above cite.
 pub mod Tests
 pub mod Lists
-pub mod Indices
 pub mod Slots
 pub mod ByKey
 pub mod Order
-pub mod Seek
 pub mod Pairs
+pub mod Operations
 pub mod Removed
+pub mod Columns
+pub mod Held
+pub mod Links
+pub mod Put
+pub mod Take
+pub mod Messages
+pub mod Left
+pub mod Mail
+pub mod Places
+pub mod Passes
+pub mod Search
+pub mod Oldest
+pub mod Appended
+pub mod Loads
+pub mod Promise

@@ -1,6 +1,11 @@
 -- The definitions that the contracts cite, and the laws of them that the crates above cite.
 pub mod Lists
 pub mod Message
-pub mod Seek
 pub mod Unread
+pub mod Columns
+pub mod Slots
+pub mod Index
+pub mod Mail
+pub mod Pick
+pub mod Search
 pub mod Laws

@@ -1,10 +1,10 @@
 -- Lists under a Boolean test: the elements that pass, how many, the first of them, and the list without it or with it changed.
 -- Assumes nothing.
 use mathlib.Core.Bool.{Bool, true, cond, _&&_}
-use mathlib.Core.List.{List, [], _∷_, _++_}
-use Prim.Native.Nat.{ℕ, zero, suc}
+use mathlib.Core.List.{List, [], _∷_}
+use Prim.Native.Nat.{ℕ}
 use lib.Dec.{leb}
-use lib.ListN.{length, take, drop}
+use lib.ListN.{length}
 
 module _ {A : Type 0} where
   -- the elements that pass, in order
@@ -15,11 +15,6 @@ module _ {A : Type 0} where
   -- how many pass
   abbrev pub tally : (A → Bool) → List A → ℕ
   tally p l = length (select p l)
-
-  -- where the first that passes stands, and the length where none does
-  abbrev pub indexOf : (A → Bool) → List A → ℕ
-  indexOf p [] = zero
-  indexOf p (x ∷ xs) = cond (p x) zero (suc (indexOf p xs))
 
   -- the list without the first that passes
   abbrev pub without : (A → Bool) → List A → List A
@@ -34,10 +29,6 @@ module _ {A : Type 0} where
   -- each that passes changed by f
   abbrev pub changeEach : (A → Bool) → (A → A) → A → A
   changeEach p f x = cond (p x) (f x) x
-
-  -- the list without what stands at an index
-  abbrev pub eraseAt : ℕ → List A → List A
-  eraseAt k l = take k l ++ drop (suc k) l
 
   -- the test passes at every element
   abbrev pub every : (A → Bool) → List A → Bool

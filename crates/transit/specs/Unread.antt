@@ -13,8 +13,6 @@ use Rattle.transit.specs.declared.Message.{Message}
 use Rattle.transit.specs.declared.Place.{Place}
 use Rattle.transit.specs.declared.Selection.{Selection}
 use Rattle.transit.specs.declared.Transit.{Transit}
-use Rattle.transit.specs.declared.append.Appended.{Appended}
-use Rattle.transit.specs.declared.remove.Removed.{Removed}
 
 -- the unread messages in order of sending, and the count as it is stored: the two agree in a sound state
 pub record Unread : Type 0 where
@@ -43,20 +41,21 @@ pub record AfterAppend : Type 0 where
   pub unread : Unread
 
 -- the new message comes last, or all is as it was
-abbrev pub appended : Unread → Message → AfterAppend
+unfoldable pub appended : Unread → Message → AfterAppend
 appended u m =
     cond (ltb (u .count) limit)
     (record { full = false; unread = record { messages = u .messages ++ (m ∷ []); count = u .count + 1 } })
     (record { full = true; unread = u })
 
--- what a call of `append` answers
-abbrev pub afterAppend : Appended → AfterAppend
-afterAppend r = record { full = r .full; unread = view (r .transit) }
-
 -- the head of a list of messages
 abbrev pub head : List Message → Found
 head [] = Nothing
 head (m ∷ ms) = First m
+
+-- the value of what was found, and 0 of nothing
+abbrev pub valueIn : Found → ℕ
+valueIn Nothing = 0
+valueIn (First m) = m .value
 
 -- the selected message that was sent first
 abbrev pub firstSent : Selection → Unread → Found
@@ -71,11 +70,11 @@ abbrev pub firstTo : Selection → Place → List Message → List Message
 firstTo s p l = changeFirst (picks s) (relabelled p) l
 
 -- each selected message goes to the place
-abbrev pub relabelAll : Selection → Place → Unread → Unread
+unfoldable pub relabelAll : Selection → Place → Unread → Unread
 relabelAll s p u = record { messages = eachTo s p (u .messages); count = u .count }
 
 -- the selected message that was sent first goes to the place
-abbrev pub relabelFirst : Selection → Place → Unread → Unread
+unfoldable pub relabelFirst : Selection → Place → Unread → Unread
 relabelFirst s p u = record { messages = firstTo s p (u .messages); count = u .count }
 
 -- what a removal found, and what is unread afterwards
@@ -93,9 +92,5 @@ leave s u Nothing = record { found = Nothing; unread = u }
 leave s u (First m) = record { found = First m; unread = counted (takeOut s m (u .messages)) }
 
 -- "the first unread message .. in place order leaves"
-abbrev pub removed : Selection → Unread → AfterRemove
+unfoldable pub removed : Selection → Unread → AfterRemove
 removed s u = leave s u (head (placeOrder s (u .messages)))
-
--- what a call of `remove` answers
-abbrev pub afterRemove : Removed → AfterRemove
-afterRemove r = record { found = r .found; unread = view (r .transit) }

@@ -1,51 +1,38 @@
-// A message sent: it joins the list at its end.
-ghost use mathlib.Core.Path.{_≡_};
-ghost use Rattle.transit.specs.Lists.{tally};
-ghost use Rattle.transit.specs.Message.{between};
-ghost use Rattle.transit.specs.Unread.{view, appended, afterAppend};
+// A message sent: it stands behind all others.
+ghost use Prim.Native.Nat.{_<_};
+ghost use lib.ListN.{length};
+ghost use Rattle.transit.specs.Mail.{Mail, messagesIn, Appended, Roomy};
+ghost use Rattle.transit.specs.Unread.{limit};
+use crate::Contents;
 use crate::Message;
-use crate::Transit;
-use crate::count::held;
+use crate::Slots;
+use crate::layout::NONE;
+use crate::layout::TAIL;
+use crate::load::load;
+use crate::load::unload;
+use crate::tail::put;
 
-// `pair` is how many messages of the new one's pair are unread afterwards.
-pub struct Appended {
-    pub full: bool,
-    pub pair: u32,
-    pub transit: Transit,
+// Where the tail has come to the end, the messages go to the front.
+fn make_room(slots: &mut Slots, contents: &mut Contents)
+    requires { ⌜ Mail (now slots) (now contents) ⌝ }
+    ensures { λ _. ⌜ Roomy (now (slots .entry)) (now (contents .entry)) (now (slots .exit)) (now (contents .exit)) ⌝ }
+{
+    let tail = slots[TAIL];
+    if tail < NONE {
+        return;
+    }
+    let t = unload(slots, contents);
+    load(t, slots, contents);
 }
 
-// The messages with `m` after all others, or `full` with the messages as they were.
-pub fn append(t: Transit, m: Message) -> Appended
-    ensures { λ r. ⌜ afterAppend r ≡ appended (view t) m ⌝ }
-    ensures counts { λ r. ⌜ r .pair ≡ tally (between (m .sender) (m .receiver)) (view (r .transit) .messages) ⌝ }
+// The message is unread, behind all others; how many of its pair are unread then.
+pub fn append(m: Message, slots: &mut Slots, contents: &mut Contents) -> u16
+    requires { ⌜ Mail (now slots) (now contents) ⌝ }
+    requires { ⌜ length (messagesIn (now slots) (now contents)) < limit ⌝ }
+    requires { ⌜ m .sender .0 < 16 ⌝ }
+    requires { ⌜ m .receiver .0 < 16 ⌝ }
+    ensures { λ n. ⌜ Appended m (now (slots .entry)) (now (contents .entry)) n (now (slots .exit)) (now (contents .exit)) ⌝ }
 {
-    let end = held(t);
-    let sender = m.sender;
-    let receiver = m.receiver;
-    let mut next = t;
-    let mut n: u32 = 0;
-    let mut i: usize = 0;
-    while i < end {
-        let other = next.messages[i];
-        if other.between(sender, receiver) {
-            n += 1;
-        }
-        i += 1;
-    }
-    let at = next.count;
-    if Transit::LIMIT <= at {
-        return Appended {
-            full: true,
-            pair: n,
-            transit: next,
-        };
-    }
-    next.messages[at] = m;
-    next.count = at + 1;
-    let pair = n + 1;
-    Appended {
-        full: false,
-        pair: pair,
-        transit: next,
-    }
+    make_room(slots, contents);
+    put(m, slots, contents)
 }

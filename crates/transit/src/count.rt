@@ -1,39 +1,96 @@
-// How many messages are unread, in all and of a selection.
+// How many messages are unread: in all, of a pair, and of a pair at a place.
+ghost use mathlib.Core.List.{List};
 ghost use mathlib.Core.Path.{_≡_};
-ghost use Prim.Native.Nat.{_≤_};
+ghost use Prim.Native.Nat.{ℕ, _<_};
 ghost use lib.ListN.{length};
+ghost use Rattle.transit.specs.Columns.{columnsOf};
 ghost use Rattle.transit.specs.Lists.{tally};
-ghost use Rattle.transit.specs.Message.{picks};
-ghost use Rattle.transit.specs.Unread.{view, limit};
-use crate::Selection;
-use crate::Transit;
+ghost use Rattle.transit.specs.Mail.{Mail, messagesIn};
+ghost use Rattle.transit.specs.Message.{between, picks};
+ghost use Rattle.transit.specs.Pick.{hits};
+ghost use Rattle.transit.specs.declared.Selection.{Selection};
+use crate::Place;
+use crate::Rank;
+use crate::Slots;
+use crate::layout::COUNT;
+use crate::layout::PLACES;
+use crate::layout::SLOTS;
+use crate::layout::UNREAD;
+use crate::layout::pair_of;
+use crate::layout::wide;
+use crate::pick::Pick;
+use crate::pick::one_if;
+use crate::pick::picked;
 
-// How many messages stand in the slots: the count, or all slots where it is past them.
-pub fn held(t: Transit) -> usize
-    ensures { λ r. ⌜ r ≡ length (view t .messages) ⌝ }
-    ensures within { λ r. ⌜ r ≤ limit ⌝ }
+// How many messages are unread.
+pub fn unread(slots: &Slots) -> usize
+    ensures { λ r. ⌜ ((contents : List ℕ) → Mail (now (slots .entry)) contents → r ≡ length (messagesIn (now (slots .entry)) contents)) ⌝ }
 {
-    let n = t.count;
-    if n < Transit::LIMIT {
-        n
-    } else {
-        Transit::LIMIT
-    }
+    wide(slots[UNREAD])
 }
 
-// How many of the selected messages are unread.
-pub fn count(t: Transit, s: Selection) -> usize
-    ensures { λ r. ⌜ r ≡ tally (picks s) (view t .messages) ⌝ }
+// How many messages from `a` to `b` are unread.
+pub fn unread_between(a: Rank, b: Rank, slots: &Slots) -> u16
+    ensures { λ r. ⌜ ((contents : List ℕ) → Mail (now (slots .entry)) contents
+        → r ≡ tally (between a b) (messagesIn (now (slots .entry)) contents)) ⌝ }
 {
-    let end = held(t);
-    let mut n: usize = 0;
-    let mut i: usize = 0;
-    while i < end {
-        let m = t.messages[i];
-        if s.picks(m) {
-            n += 1;
+    if a.0 < 16 {
+        if b.0 < 16 {
+            let pair = pair_of(a, b);
+            return slots[COUNT + pair];
         }
+    }
+    0
+}
+
+// How many slots are picked.
+fn count_hits(w: Pick, slots: &Slots) -> u16
+    ensures { λ r. ⌜ r ≡ hits w (columnsOf (now (slots .entry))) 2048 ⌝ }
+{
+    let mut n: u16 = 0;
+    let mut i: usize = 0;
+    while i < SLOTS {
+        let hit = picked(w, slots[i], slots[PLACES + i]);
+        n += one_if(hit);
         i += 1;
     }
     n
+}
+
+// How many messages from `a` to `b` are unread at a place.
+pub fn count_at(a: Rank, b: Rank, place: Place, slots: &Slots) -> u16
+    requires { ⌜ a .0 < 16 ⌝ }
+    requires { ⌜ b .0 < 16 ⌝ }
+    ensures { λ r. ⌜ ((contents : List ℕ) → Mail (now (slots .entry)) contents
+        → r ≡ tally (picks (Selection.BetweenAt a b place)) (messagesIn (now (slots .entry)) contents)) ⌝ }
+{
+    let low = 16 * (a.0 as u16);
+    let number = place.number();
+    count_hits(
+        Pick {
+            low: low,
+            high: low + 16,
+            receiver: b.0 as u16,
+            place: number as u16,
+        },
+        slots,
+    )
+}
+
+// How many messages to `r` are unread at a place.
+pub fn count_to(r: Rank, place: Place, slots: &Slots) -> u16
+    requires { ⌜ r .0 < 16 ⌝ }
+    ensures { λ n. ⌜ ((contents : List ℕ) → Mail (now (slots .entry)) contents
+        → n ≡ tally (picks (Selection.ToAt r place)) (messagesIn (now (slots .entry)) contents)) ⌝ }
+{
+    let number = place.number();
+    count_hits(
+        Pick {
+            low: 0,
+            high: 256,
+            receiver: r.0 as u16,
+            place: number as u16,
+        },
+        slots,
+    )
 }

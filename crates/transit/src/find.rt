@@ -1,38 +1,75 @@
-// The first of the selected messages: by sending, and by place and then by sending.
+// The message of a pair at a place, and the message to a receiver, that was sent first.
 ghost use mathlib.Core.Path.{_≡_};
-ghost use Rattle.transit.specs.Lists.{indexOf};
-ghost use Rattle.transit.specs.Message.{picks};
-ghost use Rattle.transit.specs.Unread.{view, firstSent};
+ghost use Prim.Native.Nat.{_<_};
+ghost use Rattle.transit.specs.Columns.{columnsOf};
+ghost use Rattle.transit.specs.Mail.{Mail, unreadIn};
+ghost use Rattle.transit.specs.Search.{Oldest};
+ghost use Rattle.transit.specs.Unread.{firstSent};
+ghost use Rattle.transit.specs.declared.Selection.{Selection};
+use crate::Contents;
 use crate::Found;
-use crate::Selection;
-use crate::Transit;
-use crate::count::held;
+use crate::Place;
+use crate::Rank;
+use crate::Slots;
+use crate::layout::FIRST;
+use crate::layout::NONE;
+use crate::layout::PLACES;
+use crate::layout::SLOTS;
+use crate::layout::message_of;
+use crate::layout::pair_of;
+use crate::layout::wide;
+use crate::walk::seek;
 
-// Where the selected message that was sent first stands, and how many are held where there is none.
-pub fn index_of(t: Transit, s: Selection) -> usize
-    ensures { λ r. ⌜ r ≡ indexOf (picks s) (view t .messages) ⌝ }
+// The message from `a` to `b` at a place that was sent first.
+pub fn first_at(a: Rank, b: Rank, place: Place, slots: &Slots, contents: &Contents) -> Found
+    requires { ⌜ Mail (now slots) (now contents) ⌝ }
+    ensures { λ r. ⌜ r ≡ firstSent (Selection.BetweenAt a b place) (unreadIn (now (slots .entry)) (now (contents .entry))) ⌝ }
 {
-    let end = held(t);
-    let mut i: usize = 0;
-    while i < end {
-        let m = t.messages[i];
-        if s.picks(m) {
-            return i;
-        }
-        i += 1;
+    if 16 <= a.0 {
+        return Found::Nothing;
     }
-    i
+    if 16 <= b.0 {
+        return Found::Nothing;
+    }
+    let pair = pair_of(a, b);
+    let number = place.number();
+    let at = seek(pair, number as u16, slots);
+    if at < SLOTS {
+        let m = message_of(slots[at], slots[PLACES + at], contents[at]);
+        return Found::First(m);
+    }
+    Found::Nothing
 }
 
-// The selected message that was sent first.
-pub fn first(t: Transit, s: Selection) -> Found
-    ensures { λ r. ⌜ r ≡ firstSent s (view t) ⌝ }
+// The first slot of a message to `r`: the least of its sixteen pairs' first slots.
+fn oldest(r: usize, slots: &Slots) -> u16
+    requires { ⌜ r < 16 ⌝ }
+    ensures { λ k. ⌜ Oldest (columnsOf (now (slots .entry))) r 16 k ⌝ }
 {
-    let at = index_of(t, s);
-    if at < held(t) {
-        let m = t.messages[at];
-        Found::First(m)
-    } else {
-        Found::Nothing
+    let mut best = NONE;
+    let mut s: usize = 0;
+    while s < 16 {
+        let first = slots[FIRST + (16 * s + r)];
+        if first < best {
+            best = first;
+        }
+        s += 1;
     }
+    best
+}
+
+// The message to `r` that was sent first.
+pub fn first_to(r: Rank, slots: &Slots, contents: &Contents) -> Found
+    requires { ⌜ Mail (now slots) (now contents) ⌝ }
+    ensures { λ f. ⌜ f ≡ firstSent (Selection.To r) (unreadIn (now (slots .entry)) (now (contents .entry))) ⌝ }
+{
+    if 16 <= r.0 {
+        return Found::Nothing;
+    }
+    let at = wide(oldest(r.0 as usize, slots));
+    if at < SLOTS {
+        let m = message_of(slots[at], slots[PLACES + at], contents[at]);
+        return Found::First(m);
+    }
+    Found::Nothing
 }

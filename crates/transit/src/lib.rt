@@ -1,14 +1,19 @@
 // The unread messages of a broker: one list in order of sending, each message with its place.
 // Paper 01: "The places of messages are kept by a lower part that knows no step kinds." This crate is that part.
 ghost use mathlib.Core.Path.{_≡_};
-ghost use Rattle.transit.specs.Message.{placeNumber, between, relabelled, picks};
-ghost use Rattle.transit.specs.Unread.{Unread, view, nothing};
+ghost use Rattle.transit.specs.Message.{placeNumber};
+ghost use Rattle.transit.specs.Unread.{view, nothing};
 
 pub mod append;
 pub mod count;
 pub mod find;
+mod layout;
+pub mod load;
+mod pick;
 pub mod relabel;
 pub mod remove;
+mod tail;
+mod walk;
 
 // The number by which processes are named at the upper of the two levels of name.
 pub struct Rank(pub u8);
@@ -47,11 +52,18 @@ pub enum Found {
     Nothing,
 }
 
-// The messages stand in the first `count` slots, in order of sending. The other slots mean nothing.
+// The messages as they are handed over and saved: in the first `count` slots, in order of sending. The other slots mean nothing.
 pub struct Transit {
     pub messages: [Message; 1024],
     pub count: usize,
 }
+
+// The messages as a run works on them: 2,048 slots in order of sending, of which those are dead whose message has left. The columns
+// are each slot's pair, place and next slot of the pair, each pair's first slot, last slot and count, the tail and the number unread.
+pub type Slots = [u16; 6914];
+
+// The value of each slot's message.
+pub type Contents = [u32; 2048];
 
 impl Place {
     // Paper 01's number of a place.
@@ -63,48 +75,6 @@ impl Place {
             Place::SourceChannel => 1,
             Place::List => 2,
             Place::Channel => 3,
-        }
-    }
-}
-
-impl Message {
-    // Whether the message is of the ordered pair, from `a` to `b`.
-    pub fn between(self, a: Rank, b: Rank) -> bool
-        ensures { λ r. ⌜ r ≡ between a b self ⌝ }
-    {
-        let from = self.sender.0;
-        let to = self.receiver.0;
-        from == a.0 && to == b.0
-    }
-
-    // The same message at another place.
-    pub fn relabelled(self, place: Place) -> Message
-        ensures { λ r. ⌜ r ≡ relabelled place self ⌝ }
-    {
-        let sender = self.sender;
-        let receiver = self.receiver;
-        Message {
-            sender: sender,
-            receiver: receiver,
-            value: self.value,
-            place: place,
-        }
-    }
-}
-
-impl Selection {
-    // Whether a message is among the selected ones.
-    pub fn picks(self, m: Message) -> bool
-        ensures { λ r. ⌜ r ≡ picks self m ⌝ }
-    {
-        let to = m.receiver.0;
-        let place = m.place;
-        let at = place.number();
-        match self {
-            Selection::To(r) => to == r.0,
-            Selection::ToAt(r, p) => to == r.0 && at == p.number(),
-            Selection::Between(a, b) => m.between(a, b),
-            Selection::BetweenAt(a, b, p) => m.between(a, b) && at == p.number(),
         }
     }
 }

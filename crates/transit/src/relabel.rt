@@ -1,40 +1,93 @@
 // Changes of places. Nothing is reordered, and nothing but the place changes.
+ghost use mathlib.Core.List.{List};
 ghost use mathlib.Core.Path.{_≡_};
-ghost use Rattle.transit.specs.Unread.{view, relabelAll, relabelFirst};
+ghost use Prim.Native.Nat.{ℕ, _<_};
+ghost use lib.ListN.{length};
+ghost use Rattle.transit.specs.Mail.{Mail, Relabelled, FirstRelabelled};
+ghost use Rattle.transit.specs.Pick.{Passed};
+ghost use Rattle.transit.specs.declared.Selection.{Selection};
 use crate::Place;
-use crate::Selection;
-use crate::Transit;
-use crate::count::held;
-use crate::find::index_of;
+use crate::Rank;
+use crate::Slots;
+use crate::layout::PLACES;
+use crate::layout::SLOTS;
+use crate::layout::pair_of;
+use crate::pick::Pick;
+use crate::pick::choose;
+use crate::pick::one_if;
+use crate::pick::picked;
+use crate::walk::seek;
 
-// The messages with each selected one at `place`.
-pub fn relabel(t: Transit, s: Selection, place: Place) -> Transit
-    ensures { λ r. ⌜ view r ≡ relabelAll s place (view t) ⌝ }
+// The picked slots go to the place of a number; how many.
+fn pass(w: Pick, to: u16, slots: &mut Slots) -> u16
+    ensures { λ n. ⌜ (length (now (slots .entry)) ≡ 6914 → Passed w to (now (slots .entry)) 2048 n (now (slots .exit))) ⌝ }
 {
-    let end = held(t);
-    let mut next = t;
+    let mut n: u16 = 0;
     let mut i: usize = 0;
-    while i < end {
-        let m = next.messages[i];
-        if s.picks(m) {
-            let moved = m.relabelled(place);
-            next.messages[i] = moved;
-        }
+    while i < SLOTS {
+        let place = slots[PLACES + i];
+        let hit = picked(w, slots[i], place);
+        slots[PLACES + i] = choose(hit, to, place);
+        n += one_if(hit);
         i += 1;
     }
-    next
+    n
 }
 
-// The messages with the first selected one, by sending, at `place`.
-pub fn relabel_first(t: Transit, s: Selection, place: Place) -> Transit
-    ensures { λ r. ⌜ view r ≡ relabelFirst s place (view t) ⌝ }
+// The messages from `a` to `b` at one place go to another; how many.
+pub fn relabel_between(a: Rank, b: Rank, from: Place, to: Place, slots: &mut Slots) -> u16
+    requires { ⌜ a .0 < 16 ⌝ }
+    requires { ⌜ b .0 < 16 ⌝ }
+    ensures { λ n. ⌜ ((contents : List ℕ) → Mail (now (slots .entry)) contents
+        → Relabelled (Selection.BetweenAt a b from) to (now (slots .entry)) contents n (now (slots .exit))) ⌝ }
 {
-    let at = index_of(t, s);
-    let mut next = t;
-    if at < held(t) {
-        let m = t.messages[at];
-        let moved = m.relabelled(place);
-        next.messages[at] = moved;
+    let low = 16 * (a.0 as u16);
+    let number = from.number();
+    let target = to.number();
+    pass(
+        Pick {
+            low: low,
+            high: low + 16,
+            receiver: b.0 as u16,
+            place: number as u16,
+        },
+        target as u16,
+        slots,
+    )
+}
+
+// The messages to `r` at one place go to another; how many.
+pub fn relabel_to(r: Rank, from: Place, to: Place, slots: &mut Slots) -> u16
+    requires { ⌜ r .0 < 16 ⌝ }
+    ensures { λ n. ⌜ ((contents : List ℕ) → Mail (now (slots .entry)) contents
+        → Relabelled (Selection.ToAt r from) to (now (slots .entry)) contents n (now (slots .exit))) ⌝ }
+{
+    let number = from.number();
+    let target = to.number();
+    pass(
+        Pick {
+            low: 0,
+            high: 256,
+            receiver: r.0 as u16,
+            place: number as u16,
+        },
+        target as u16,
+        slots,
+    )
+}
+
+// The first message from `a` to `b` at one place goes to another.
+pub fn relabel_first(a: Rank, b: Rank, from: Place, to: Place, slots: &mut Slots)
+    requires { ⌜ a .0 < 16 ⌝ }
+    requires { ⌜ b .0 < 16 ⌝ }
+    ensures { λ _. ⌜ ((contents : List ℕ) → Mail (now (slots .entry)) contents
+        → FirstRelabelled (Selection.BetweenAt a b from) to (now (slots .entry)) contents (now (slots .exit))) ⌝ }
+{
+    let pair = pair_of(a, b);
+    let number = from.number();
+    let target = to.number();
+    let at = seek(pair, number as u16, slots);
+    if at < SLOTS {
+        slots[PLACES + at] = target as u16;
     }
-    next
 }

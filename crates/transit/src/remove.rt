@@ -1,103 +1,44 @@
-// A message taken: the first of the selected ones, by place and then by sending, leaves the list.
-ghost use mathlib.Core.Path.{_≡_};
+// A message taken: the first of its pair leaves.
 ghost use Prim.Native.Nat.{_<_};
-ghost use lib.ListN.{length};
-ghost use Rattle.transit.specs.Lists.{eraseAt, tally};
-ghost use Rattle.transit.specs.Message.{picks};
-ghost use Rattle.transit.specs.Seek.{sought};
-ghost use Rattle.transit.specs.Unread.{view, counted, removed, afterRemove};
-use crate::Found;
-use crate::Selection;
-use crate::Transit;
-use crate::count::held;
+ghost use Rattle.transit.specs.Lists.{tally};
+ghost use Rattle.transit.specs.Mail.{Mail, messagesIn, Left};
+ghost use Rattle.transit.specs.Message.{between};
+use crate::Contents;
+use crate::Rank;
+use crate::Slots;
+use crate::layout::COUNT;
+use crate::layout::DEAD;
+use crate::layout::FIRST;
+use crate::layout::NEXT;
+use crate::layout::UNREAD;
+use crate::layout::pair_of;
 
-// `left` is how many of the selected messages are unread afterwards.
+// The value of the message that left, and how many of its pair are left.
 pub struct Removed {
-    pub found: Found,
-    pub left: u32,
-    pub transit: Transit,
+    pub value: u32,
+    pub left: u16,
 }
 
-// What a search by place has come to: a message at `least` stands at `at`; 4 where none was found yet.
-pub struct Sought {
-    pub at: usize,
-    pub least: u8,
-}
-
-// What a search by place finds, and how many messages are selected.
-pub struct Search {
-    pub best: Sought,
-    pub picked: u32,
-}
-
-// Where the first of the selected messages by place and then by sending stands.
-fn seek(t: Transit, s: Selection) -> Search
-    ensures { λ r. ⌜ r .best ≡ sought s (view t .messages) ⌝ }
-    ensures counts { λ r. ⌜ r .picked ≡ tally (picks s) (view t .messages) ⌝ }
+// The first message from `a` to `b` leaves.
+pub fn remove(a: Rank, b: Rank, slots: &mut Slots, contents: &Contents) -> Removed
+    requires { ⌜ Mail (now slots) (now contents) ⌝ }
+    requires { ⌜ a .0 < 16 ⌝ }
+    requires { ⌜ b .0 < 16 ⌝ }
+    requires { ⌜ 0 < tally (between a b) (messagesIn (now slots) (now contents)) ⌝ }
+    ensures { λ r. ⌜ Left a b (now (slots .entry)) (now (contents .entry)) (r .value) (r .left) (now (slots .exit)) ⌝ }
 {
-    let end = held(t);
-    let mut best = Sought { at: 0, least: 4 };
-    let mut n: u32 = 0;
-    let mut i: usize = 0;
-    while i < end {
-        let m = t.messages[i];
-        if s.picks(m) {
-            n += 1;
-            let place = m.place;
-            let number = place.number();
-            if number < best.least {
-                best = Sought {
-                    at: i,
-                    least: number,
-                };
-            }
-        }
-        i += 1;
-    }
-    Search {
-        best: best,
-        picked: n,
-    }
-}
-
-// The messages without the one at `at`.
-fn close_gap(t: Transit, at: usize) -> Transit
-    requires { ⌜ at < length (view t .messages) ⌝ }
-    ensures { λ r. ⌜ view r ≡ counted (eraseAt at (view t .messages)) ⌝ }
-{
-    let end = held(t);
-    let mut next = t;
-    let mut i = at;
-    while i + 1 < end {
-        let m = next.messages[i + 1];
-        next.messages[i] = m;
-        i += 1;
-    }
-    next.count = i;
-    next
-}
-
-// The first of the selected messages in place order, and the messages without it.
-pub fn remove(t: Transit, s: Selection) -> Removed
-    ensures { λ r. ⌜ afterRemove r ≡ removed s (view t) ⌝ }
-    ensures counts { λ r. ⌜ r .left ≡ tally (picks s) (view (r .transit) .messages) ⌝ }
-{
-    let search = seek(t, s);
-    let best = search.best;
-    if 3 < best.least {
-        return Removed {
-            found: Found::Nothing,
-            left: search.picked,
-            transit: t,
-        };
-    }
-    let at = best.at;
-    let m = t.messages[at];
-    let next = close_gap(t, at);
-    let left = search.picked - 1;
+    let pair = pair_of(a, b);
+    let at = slots[FIRST + pair] as usize;
+    let value = contents[at];
+    let next = slots[NEXT + at];
+    let left = slots[COUNT + pair] - 1;
+    let unread = slots[UNREAD] - 1;
+    slots[at] = DEAD;
+    slots[FIRST + pair] = next;
+    slots[COUNT + pair] = left;
+    slots[UNREAD] = unread;
     Removed {
-        found: Found::First(m),
+        value: value,
         left: left,
-        transit: next,
     }
 }

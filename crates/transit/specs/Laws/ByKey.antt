@@ -3,15 +3,13 @@
 use mathlib.Core.Path.{_≡_, refl, sym, ap, _∙_}
 use mathlib.Core.Bool.{Bool, true, false, not}
 use mathlib.Core.List.{List, [], _∷_, _++_, map, head-eq-of-cons-eq, tail-eq-of-cons-eq}
-use Prim.Native.Nat.{ℕ, zero, suc, _+_, _<_, _≤_, min}
+use Prim.Native.Nat.{ℕ, zero, suc, _+_, _<_, _≤_}
 use native.Mathlib.Omega.{arith}
 use borrow.Author.Tests.{ne-eqb, eqb-true, eqb-false, leb-true, ltb-true}
 use lib.Dec.{eqb, leb, ltb}
-use lib.ListN.{length, drop, getD}
-use Rattle.transit.specs.Lists.{select, tally, indexOf, without, every, neverFalls}
+use Rattle.transit.specs.Lists.{select, tally, without, every, neverFalls}
 use Rattle.transit.specs.Laws.Tests.{by-test, both-left, both-right}
 use Rattle.transit.specs.Laws.Lists.{select-none, every-selected, every-wider, every-map, without-head, without-other}
-use Rattle.transit.specs.Laws.Indices.{select-found}
 
 module _ {A : Type 0} (k : A → ℕ) where
   -- the element has the key
@@ -23,61 +21,23 @@ module _ {A : Type 0} (k : A → ℕ) where
   byKey j zero l = []
   byKey j (suc n) l = select (hasKey j) l ++ byKey (suc j) n l
 
-  -- the least key of a list, and t where none is less
-  abbrev pub least : ℕ → List A → ℕ
-  least t [] = t
-  least t (x ∷ l) = min (k x) (least t l)
-
-  -- Nothing has a key below the least.
-  pub none-below : (t : ℕ) (l : List A) (j : ℕ) → j < least t l → select (hasKey j) l ≡ []
-  none-below t [] j below = refl
-  none-below t (x ∷ l) j below = rw (ne-eqb (k x) j (omega arith)) (none-below t l j (omega arith))
-
-  -- Something has the least key.
-  pub some-least : (t : ℕ) (l : List A) → least t l < t → indexOf (hasKey (least t l)) l < length l
-  some-least t [] less = omega arith
-  some-least t (x ∷ l) less =
-      by-test (hasKey (least t (x ∷ l)) x)
-      (λ e. rw e (omega arith))
-      (λ e.
-      let later : min (k x) (least t l) ≡ least t l = omega (arith, eqb-false) in
-      let found = some-least t l (omega arith) in
-      rw e (rw later (omega arith)))
-
-  -- By keys, the first of the least key comes first.
-  pub byKey-least : (t : ℕ) (l : List A) (d : A) → least t l < t → (j n : ℕ) → j ≤ least t l → least t l < j + n
-      → (rest : List A) × (byKey j n l ≡ getD l (indexOf (hasKey (least t l)) l) d ∷ rest)
-  byKey-least t l d less j zero from to = absurd (omega arith)
-  byKey-least t l d less j (suc n) from to =
-      by-test (eqb j (least t l))
-      (λ e. (
-        select (hasKey (least t l)) (drop (suc (indexOf (hasKey (least t l)) l)) l) ++ byKey (suc j) n l,
-        rw (eqb-true j (least t l) e, select-found (hasKey (least t l)) l d (some-least t l less)),
-      ))
-      (λ e.
-      let h : j < least t l = omega (arith, eqb-false) in
-      let later = byKey-least t l d less (suc j) n h (omega arith) in
-      (later .0, rw (none-below t l j h) (later .1)))
-
-  -- Where no key is below a bound, nothing comes of the keys below it.
-  pub byKey-none : (t : ℕ) (l : List A) (j n : ℕ) → j + n ≤ least t l → byKey j n l ≡ []
-  byKey-none t l j zero past = refl
-  byKey-none t l j (suc n) past = rw (none-below t l j (omega arith), byKey-none t l (suc j) n (omega arith))
-
   -- An element whose key is below is left out.
   byKey-skip : (x : A) (l : List A) (j n : ℕ) → k x < j → byKey j n (x ∷ l) ≡ byKey j n l
   byKey-skip x l j zero below = refl
   byKey-skip x l j (suc n) below = rw (ne-eqb (k x) j (omega arith), byKey-skip x l (suc j) n (omega arith))
 
   -- An element whose key is above no other's comes first.
-  byKey-cons : (x : A) (l : List A) (j n : ℕ) → j ≤ k x → k x < j + n → every (λ y. leb (k x) (k y)) l ≡ true → byKey j n (x ∷ l) ≡ x ∷ byKey j n l
+  byKey-cons : (x : A) (l : List A) (j n : ℕ) → j ≤ k x → k x < j + n → every (λ y. leb (k x) (k y)) l ≡ true
+      → byKey j n (x ∷ l) ≡ x ∷ byKey j n l
   byKey-cons x l j zero from to first = absurd (omega arith)
   byKey-cons x l j (suc n) from to first =
       by-test (hasKey j x)
       (λ e. rw (e, byKey-skip x l (suc j) n (omega (arith, eqb-true))))
       (λ e.
       let above : j < k x = omega (arith, eqb-false) in
-      let none = select-none (hasKey j) l (every-wider (λ y. leb (k x) (k y)) (λ y. not (hasKey j y)) (λ y h. rw (ne-eqb (k y) j (omega (arith, leb-true)))) l first) in
+      let apart =
+      every-wider (λ y. leb (k x) (k y)) (λ y. not (hasKey j y)) (λ y h. rw (ne-eqb (k y) j (omega (arith, leb-true)))) l first in
+      let none = select-none (hasKey j) l apart in
       rw (e, none) (byKey-cons x l (suc j) n above (omega arith) first))
 
   -- Nothing comes of nothing.

@@ -3,10 +3,10 @@
 use mathlib.Core.Path.{_≡_, refl, _∙_}
 use mathlib.Core.Bool.{Bool, true, false, _&&_, not, and-assoc}
 use mathlib.Core.List.{List, [], _∷_, _++_, map}
-use Prim.Native.Nat.{suc, _+_, _<_, _≤_}
+use Prim.Native.Nat.{ℕ, zero, suc, _+_, _<_, _≤_}
 use native.Mathlib.Omega.{arith}
 use borrow.Author.Tests.{not-true}
-use lib.ListN.{length, length-append}
+use lib.ListN.{length, getD, length-append}
 use Rattle.transit.specs.Lists.{select, tally, without, changeFirst, changeEach, every}
 use Rattle.transit.specs.Laws.Tests.{by-test, both-left, both-right}
 
@@ -17,7 +17,8 @@ module _ {A : Type 0} where
   every-always p always (x ∷ l) = simp (always x, every-always p always l)
 
   -- A test that passes where two others do, passes at every element if they do.
-  pub every-both : (p q r : A → Bool) → ((x : A) → p x ≡ true → q x ≡ true → r x ≡ true) → (l : List A) → every p l ≡ true → every q l ≡ true → every r l ≡ true
+  pub every-both : (p q r : A → Bool) → ((x : A) → p x ≡ true → q x ≡ true → r x ≡ true)
+      → (l : List A) → every p l ≡ true → every q l ≡ true → every r l ≡ true
   every-both p q r joined [] ps qs = refl
   every-both p q r joined (x ∷ l) ps qs =
       simp (
@@ -54,7 +55,8 @@ module _ {A : Type 0} where
       (λ e. simp e (both-right (p x) _ all))
       (λ e. simp (e, both-left (p x) _ all, every-without p q l (both-right (p x) _ all)))
 
-  -- A change of each that passes q leads from p at every element to r at every element, if it does at those that it changes and at those that it does not.
+  -- A change of each that passes q leads from p at every element to r at every element, if it does at those that it changes and at
+  -- those that it does not.
   pub every-changeEach : (p q r : A → Bool) (f : A → A) → ((x : A) → p x ≡ true → q x ≡ true → r (f x) ≡ true)
       → ((x : A) → p x ≡ true → q x ≡ false → r x ≡ true) → (l : List A) → every p l ≡ true → every r (map (changeEach q f) l) ≡ true
   every-changeEach p q r f changed kept l all =
@@ -74,6 +76,12 @@ module _ {A : Type 0} where
   pub every-selected : (p : A → Bool) (l : List A) → every p (select p l) ≡ true
   every-selected p [] = refl
   every-selected p (x ∷ l) = by-test (p x) (λ e. simp (e, every-selected p l)) (λ e. simp (e, every-selected p l))
+
+  -- What passes at every element passes at one.
+  pub every-at : (p : A → Bool) (l : List A) (i : ℕ) (d : A) → every p l ≡ true → i < length l → p (getD l i d) ≡ true
+  every-at p [] i d all inside = absurd (omega arith)
+  every-at p (x ∷ l) zero d all inside = both-left (p x) _ all
+  every-at p (x ∷ l) (suc i) d all inside = every-at p l i d (both-right (p x) _ all) (omega arith)
 
   -- Where all pass, all are selected.
   pub select-all : (p : A → Bool) (l : List A) → every p l ≡ true → select p l ≡ l
@@ -139,20 +147,29 @@ module _ {A : Type 0} where
   length-without q (x ∷ l) some = by-test (q x) (λ e. simp e) (λ e. simp (e, length-without q l (rw e at some)))
 
   -- Where q is the narrower test and something passes it, one fewer passes p without the first that passes q.
-  pub tally-without : (p q : A → Bool) → ((x : A) → q x ≡ true → p x ≡ true) → (l : List A) → 0 < tally q l → suc (tally p (without q l)) ≡ tally p l
+  pub tally-without : (p q : A → Bool) → ((x : A) → q x ≡ true → p x ≡ true) → (l : List A) → 0 < tally q l
+      → suc (tally p (without q l)) ≡ tally p l
   tally-without p q within [] some = omega arith
   tally-without p q within (x ∷ l) some =
       by-test (q x)
       (λ e. simp (e, within x e))
-      (λ e. by-test (p x) (λ h. simp (e, h, tally-without p q within l (rw e at some))) (λ h. simp (e, h, tally-without p q within l (rw e at some))))
+      (λ e. by-test (p x)
+      (λ h. simp (e, h, tally-without p q within l (rw e at some)))
+      (λ h. simp (e, h, tally-without p q within l (rw e at some))))
 
   -- A change of the first that passes keeps the length.
   pub length-changeFirst : (q : A → Bool) (f : A → A) (l : List A) → length (changeFirst q f l) ≡ length l
   length-changeFirst q f [] = refl
   length-changeFirst q f (x ∷ l) = by-test (q x) (λ e. simp e) (λ e. simp (e, length-changeFirst q f l))
 
+  -- Where none passes, none is changed.
+  pub changeFirst-unmet : (q : A → Bool) (f : A → A) (l : List A) → select q l ≡ [] → changeFirst q f l ≡ l
+  changeFirst-unmet q f [] none = refl
+  changeFirst-unmet q f (x ∷ l) none = by-test (q x) (λ e. cc (rw e at none)) (λ e. simp (e, changeFirst-unmet q f l (rw e at none)))
+
   -- What a change keeps of an element, the change of those that pass keeps.
-  pub changeEach-keeps : {B : Type 0} (g : A → B) (q : A → Bool) (f : A → A) → ((x : A) → g (f x) ≡ g x) → (x : A) → g (changeEach q f x) ≡ g x
+  pub changeEach-keeps : {B : Type 0} (g : A → B) (q : A → Bool) (f : A → A) → ((x : A) → g (f x) ≡ g x)
+      → (x : A) → g (changeEach q f x) ≡ g x
   changeEach-keeps g q f kept x = by-test (q x) (λ e. simp (e, kept x)) (λ e. simp e)
 
   -- What a change keeps of each element, it keeps of all that pass a test that does not see it.
@@ -163,11 +180,14 @@ module _ {A : Type 0} where
       by-test (p x) (λ e. simp (kept x, e, same x, map-keeps g p f kept same l)) (λ e. simp (kept x, e, map-keeps g p f kept same l))
 
   -- What a change does to what is read of each element, it does to what is read of all that pass a test that does not see it.
-  pub map-follows : {B : Type 0} (g : A → B) (h : B → B) (p : A → Bool) (f : A → A) → ((x : A) → p (f x) ≡ p x) → ((x : A) → p x ≡ true → g (f x) ≡ h (g x))
+  pub map-follows : {B : Type 0} (g : A → B) (h : B → B) (p : A → Bool) (f : A → A) → ((x : A) → p (f x) ≡ p x)
+      → ((x : A) → p x ≡ true → g (f x) ≡ h (g x))
       → (l : List A) → map g (select p (map f l)) ≡ map h (map g (select p l))
   map-follows g h p f kept follows [] = refl
   map-follows g h p f kept follows (x ∷ l) =
-      by-test (p x) (λ e. simp (kept x, e, follows x e, map-follows g h p f kept follows l)) (λ e. simp (kept x, e, map-follows g h p f kept follows l))
+      by-test (p x)
+      (λ e. simp (kept x, e, follows x e, map-follows g h p f kept follows l))
+      (λ e. simp (kept x, e, map-follows g h p f kept follows l))
 
   -- What a change keeps of each element, a change of the first that passes keeps of all that pass a test that does not see it.
   pub changeFirst-keeps : {B : Type 0} (g : A → B) (p q : A → Bool) (f : A → A) → ((x : A) → p (f x) ≡ p x) → ((x : A) → g (f x) ≡ g x)
@@ -176,7 +196,9 @@ module _ {A : Type 0} where
   changeFirst-keeps g p q f kept same (x ∷ l) =
       by-test (q x)
       (λ e. by-test (p x) (λ h. simp (e, kept x, h, same x)) (λ h. simp (e, kept x, h)))
-      (λ e. by-test (p x) (λ h. simp (e, h, changeFirst-keeps g p q f kept same l)) (λ h. simp (e, h, changeFirst-keeps g p q f kept same l)))
+      (λ e. by-test (p x)
+      (λ h. simp (e, h, changeFirst-keeps g p q f kept same l))
+      (λ h. simp (e, h, changeFirst-keeps g p q f kept same l)))
 
   -- Where q is the narrower test, the first that passes it is changed in what passes p.
   pub changeFirst-same : (p q : A → Bool) (f : A → A) → ((x : A) → p (f x) ≡ p x) → ((x : A) → q x ≡ true → p x ≡ true)

@@ -10,7 +10,6 @@ use lib.Dec.{leb, ltb}
 use lib.ListN.{length, length-append}
 use Rattle.transit.specs.Lists.{select, tally, without, every, neverFalls}
 use Rattle.transit.specs.Message.{placeNumber, number, samePlace, at, picks, byPlace, placeOrder}
-use Rattle.transit.specs.Seek.{key}
 use Rattle.transit.specs.declared.Message.{Message}
 use Rattle.transit.specs.declared.Place.{Place}
 use Rattle.transit.specs.declared.Place.the-variants.{SourceList, SourceChannel, List as EndList, Channel}
@@ -25,6 +24,10 @@ place-below-four SourceList = omega arith
 place-below-four SourceChannel = omega arith
 place-below-four EndList = omega arith
 place-below-four Channel = omega arith
+
+-- what place order goes by: the number of a selected message's place, and 4 of any other message
+abbrev pub key : Selection → Message → ℕ
+key s m = cond (picks s m) (number m) 4
 
 -- The key of a selected message is the number of its place.
 pub key-picked : (s : Selection) (m : Message) → picks s m ≡ true → key s m ≡ number m
@@ -51,14 +54,18 @@ byPlace-by-keys l = simp (append-assoc, append-nil)
 
 -- A message more, at its place, is one more in all.
 placed : (p : Place) (m : Message) (s t u v : List Message) (n : ℕ) → length s + (length t + (length u + length v)) ≡ n
-    → length (cond (samePlace p SourceList) (m ∷ s) s) + (length (cond (samePlace p SourceChannel) (m ∷ t) t) + (length (cond (samePlace p EndList) (m ∷ u) u) + length (cond (samePlace p Channel) (m ∷ v) v))) ≡ suc n
+    → length (cond (samePlace p SourceList) (m ∷ s) s)
+    + (length (cond (samePlace p SourceChannel) (m ∷ t) t)
+    + (length (cond (samePlace p EndList) (m ∷ u) u) + length (cond (samePlace p Channel) (m ∷ v) v)))
+    ≡ suc n
 placed SourceList m s t u v n is = omega (arith, is)
 placed SourceChannel m s t u v n is = omega (arith, is)
 placed EndList m s t u v n is = omega (arith, is)
 placed Channel m s t u v n is = omega (arith, is)
 
 -- Each message is at one of the four places.
-at-places : (l : List Message) → tally (at SourceList) l + (tally (at SourceChannel) l + (tally (at EndList) l + tally (at Channel) l)) ≡ length l
+at-places : (l : List Message)
+    → tally (at SourceList) l + (tally (at SourceChannel) l + (tally (at EndList) l + tally (at Channel) l)) ≡ length l
 at-places [] = refl
 at-places (m ∷ l) = placed (m .place) m _ _ _ _ _ (at-places l)
 
@@ -67,13 +74,15 @@ pub placeOrder-length : (s : Selection) (l : List Message) → length (placeOrde
 placeOrder-length s l = simp length-append (omega (arith, at-places (select (picks s) l)))
 
 -- The selected messages at a place are those that have its key.
-selected-at : (s : Selection) (l : List Message) (p : Place) → select (at p) (select (picks s) l) ≡ select (hasKey (key s) (placeNumber p)) l
+selected-at : (s : Selection) (l : List Message) (p : Place)
+    → select (at p) (select (picks s) l) ≡ select (hasKey (key s) (placeNumber p)) l
 selected-at s l p = select-select (picks s) (at p) l ∙ ap (λ (t : Message → Bool). select t l) (key-is-place s p)
 
 -- The selected messages in place order are the messages by keys.
 pub placeOrder-by-keys : (s : Selection) (l : List Message) → placeOrder s l ≡ byKey (key s) 0 4 l
 placeOrder-by-keys s l =
-    rw (selected-at s l SourceList, selected-at s l SourceChannel, selected-at s l EndList, selected-at s l Channel) (simp (append-assoc, append-nil))
+    rw (selected-at s l SourceList, selected-at s l SourceChannel, selected-at s l EndList, selected-at s l Channel)
+    (simp (append-assoc, append-nil))
 
 -- Where the places of the selected messages never fall, place order is the order of sending.
 pub place-order-is-list-order : (s : Selection) (l : List Message) → neverFalls (map number (select (picks s) l)) ≡ true
@@ -101,11 +110,15 @@ neverFalls-map f p keeps (x ∷ l) occur sorted =
     both {a = every (leb (f x)) (map f l)} (rw every-map first) (neverFalls-map f p keeps l others (both-right (every (leb x) l) _ sorted))
 
 -- Numbers of which one is left out still never fall.
-pub neverFalls-without : {A : Type 0} (f : A → ℕ) (q : A → Bool) (l : List A) → neverFalls (map f l) ≡ true → neverFalls (map f (without q l)) ≡ true
+pub neverFalls-without : {A : Type 0} (f : A → ℕ) (q : A → Bool) (l : List A) → neverFalls (map f l) ≡ true
+    → neverFalls (map f (without q l)) ≡ true
 neverFalls-without f q [] sorted = refl
 neverFalls-without f q (x ∷ l) sorted =
     let first : every (λ y. leb (f x) (f y)) l ≡ true = rw every-map at (both-left (every (leb (f x)) (map f l)) _ sorted) in
     let others = both-right (every (leb (f x)) (map f l)) _ sorted in
     by-test (q x)
     (λ e. rw e others)
-    (λ e. rw e (both {a = every (leb (f x)) (map f (without q l))} (rw every-map (every-without (λ y. leb (f x) (f y)) q l first)) (neverFalls-without f q l others)))
+    (λ e. rw e
+    (both {a = every (leb (f x)) (map f (without q l))}
+    (rw every-map (every-without (λ y. leb (f x) (f y)) q l first))
+    (neverFalls-without f q l others)))

@@ -11,16 +11,30 @@ use lib.ListN.{length, length-append, length-map}
 use Rattle.transit.specs.Lists.{select, changeEach, every, neverFalls}
 use Rattle.transit.specs.Message.{placeNumber, number, sameRank, at, to, between, relabelled, picks, placeOrder}
 use Rattle.transit.specs.Unread.{eachTo, firstTo, takeOut}
-use Rattle.transit.specs.Seek.{key}
 use Rattle.transit.specs.declared.Message.{Message}
 use Rattle.transit.specs.declared.Place.{Place}
 use Rattle.transit.specs.declared.Rank.{Rank}
 use Rattle.transit.specs.declared.Selection.{Selection}
 use Rattle.transit.specs.declared.Selection.the-variants.{ToAt, Between, BetweenAt}
 use Rattle.transit.specs.Laws.Tests.{by-test, both, both-left, both-right}
-use Rattle.transit.specs.Laws.Lists.{select-append, without-other, without-same, length-without, every-selected, changeFirst-other, changeEach-other, changeEach-keeps, changeEach-none, changeFirst-none, map-keeps, map-follows, changeFirst-keeps, length-changeFirst}
+use Rattle.transit.specs.Laws.Lists.{
+  select-append,
+  without-other,
+  without-same,
+  length-without,
+  every-selected,
+  changeFirst-other,
+  changeEach-other,
+  changeEach-keeps,
+  changeEach-none,
+  changeFirst-none,
+  map-keeps,
+  map-follows,
+  changeFirst-keeps,
+  length-changeFirst,
+}
 use Rattle.transit.specs.Laws.ByKey.{hasKey, Heads, byKey-heads}
-use Rattle.transit.specs.Laws.Order.{key-below-four, key-is-place, placeOrder-by-keys, place-order-is-list-order}
+use Rattle.transit.specs.Laws.Order.{key, key-below-four, key-is-place, placeOrder-by-keys, place-order-is-list-order}
 
 -- the values of a pair's unread messages, in order of sending
 abbrev pub values : Rank → Rank → List Message → List ℕ
@@ -67,11 +81,13 @@ append-length l m = rw length-append (omega arith)
 
 module _ (a b : Rank) where
   -- A message of the pair joins the pair's messages at their end.
-  pub append-to-pair : (l : List Message) (m : Message) → between a b m ≡ true → select (between a b) (l ++ m ∷ []) ≡ select (between a b) l ++ m ∷ []
+  pub append-to-pair : (l : List Message) (m : Message) → between a b m ≡ true
+      → select (between a b) (l ++ m ∷ []) ≡ select (between a b) l ++ m ∷ []
   append-to-pair l m of-pair = rw (select-append, of-pair)
 
   -- Any other message leaves them as they are.
-  pub append-to-other : (l : List Message) (m : Message) → between a b m ≡ false → select (between a b) (l ++ m ∷ []) ≡ select (between a b) l
+  pub append-to-other : (l : List Message) (m : Message) → between a b m ≡ false
+      → select (between a b) (l ++ m ∷ []) ≡ select (between a b) l
   append-to-other l m other = rw (select-append, other, append-nil)
 
   -- The value of a message of the pair comes after the pair's values.
@@ -93,7 +109,10 @@ module _ (a b : Rank) where
   -- A change of the places of all that are selected leaves the pair's values as they are.
   pub eachTo-keeps-values : (s : Selection) (p : Place) (l : List Message) → values a b (eachTo s p l) ≡ values a b l
   eachTo-keeps-values s p l =
-      map-keeps (λ m. m .value) (between a b) _ (changeEach-keeps (between a b) (picks s) (relabelled p) (λ x. refl)) (changeEach-keeps (λ m. m .value) (picks s) (relabelled p) (λ x. refl)) l
+      map-keeps (λ m. m .value) (between a b) _
+      (changeEach-keeps (between a b) (picks s) (relabelled p) (λ x. refl))
+      (changeEach-keeps (λ m. m .value) (picks s) (relabelled p) (λ x. refl))
+      l
 
   -- A change of the place of the first that is selected leaves the pair's values as they are.
   pub firstTo-keeps-values : (s : Selection) (p : Place) (l : List Message) → values a b (firstTo s p l) ≡ values a b l
@@ -123,7 +142,8 @@ module _ (a b : Rank) where
   eachTo-moves : (s : Selection) (p q : Place) → ((m : Message) → between a b m ≡ true → picks s m ≡ at p m)
       → (l : List Message) → places a b (eachTo s q l) ≡ map (moved p q) (places a b l)
   eachTo-moves s p q same l =
-      map-follows number (moved p q) (between a b) (changeEach (picks s) (relabelled q)) (changeEach-keeps (between a b) (picks s) (relabelled q) (λ x. refl))
+      map-follows number (moved p q) (between a b) (changeEach (picks s) (relabelled q))
+      (changeEach-keeps (between a b) (picks s) (relabelled q) (λ x. refl))
       (λ m e. by-test (at p m) (λ h. simp (same m e, h)) (λ h. simp (same m e, h)))
       l
 
@@ -164,7 +184,8 @@ module _ (s : Selection) (l : List Message) (m : Message) (ms : List Message) (h
 pub takeOut-keeps-other : (a b c d : Rank) → (sameRank a c && sameRank b d) ≡ false
     → (l : List Message) (m : Message) → select (between c d) (takeOut (Between a b) m l) ≡ select (between c d) l
 takeOut-keeps-other a b c d differ l m =
-    without-other (between c d) (λ x. between a b x && at (m .place) x) (λ x e. other-pair a b c d differ x (both-left (between a b x) _ e)) l
+    without-other (between c d) (λ x. between a b x && at (m .place) x)
+    (λ x e. other-pair a b c d differ x (both-left (between a b x) _ e)) l
 
 module _ (a b : Rank) (l : List Message) (m : Message) (ms : List Message)
     (sorted : neverFalls (places a b l) ≡ true) (heads : placeOrder (Between a b) l ≡ m ∷ ms) where

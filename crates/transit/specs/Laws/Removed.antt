@@ -15,7 +15,8 @@ use Rattle.transit.specs.Laws.Order.{place-order-is-list-order}
 use Rattle.transit.specs.Laws.Tests.{by-test}
 
 -- A narrower test that the first to pass also passes leaves out the same element.
-pub without-narrower : {A : Type 0} (p q : A → Bool) (l : List A) (x : A) (rest : List A) → select p l ≡ x ∷ rest → q x ≡ true → without (λ y. p y && q y) l ≡ without p l
+pub without-narrower : {A : Type 0} (p q : A → Bool) (l : List A) (x : A) (rest : List A) → select p l ≡ x ∷ rest → q x ≡ true
+    → without (λ y. p y && q y) l ≡ without p l
 without-narrower p q [] x rest first passes = refl
 without-narrower {A} p q (y ∷ l) x rest first passes =
     by-test (p y)
@@ -29,11 +30,14 @@ left-found s u (First m) = refl
 
 -- A removal finds the head of place order.
 pub removed-found : (s : Selection) (u : Unread) → removed s u .found ≡ head (placeOrder s (u .messages))
+unfolding removed
 removed-found s u = left-found s u (head (placeOrder s (u .messages)))
 
 -- Where the places of the selected messages never fall, the one that was sent first leaves.
-pub removed-sent-first : (s : Selection) (u : Unread) (m : Message) (rest : List Message) → neverFalls (map number (select (picks s) (u .messages))) ≡ true → select (picks s) (u .messages) ≡ m ∷ rest
+pub removed-sent-first : (s : Selection) (u : Unread) (m : Message) (rest : List Message)
+    → neverFalls (map number (select (picks s) (u .messages))) ≡ true → select (picks s) (u .messages) ≡ m ∷ rest
     → removed s u ≡ record { found = First m; unread = counted (without (picks s) (u .messages)) }
+unfolding removed
 removed-sent-first s u m rest rises first =
     ap (λ (o : List Message). leave s u (head o)) (place-order-is-list-order s (u .messages) rises ∙ first) ∙
     ap {B = AfterRemove} (λ l. record { found = First m; unread = counted l })

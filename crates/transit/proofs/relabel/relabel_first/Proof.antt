@@ -1,71 +1,77 @@
--- `transit::relabel::relabel_first` meets its contract: the change of the first selected message is a store at its index.
--- Assumes nothing.
-use Prim.Native.Nat.{_<_, _≤_}
-use native.Mathlib.Omega.{arith}
+-- `transit::relabel::relabel_first` meets its contract. Assumes nothing.
+use Rattle.transit.specs.Columns.{columnsOf}
+use Rattle.transit.specs.Index.{Index}
+use Rattle.transit.specs.Search.{Reached}
+use Rattle.transit.specs.Message.{placeNumber}
+use Rattle.transit.specs.Slots.{pairOf}
+use Rattle.transit.specs.Laws.Search.{first-changed, first-unchanged}
 use borrow.Author.Needs.{needs}
-use lib.Seq.{set-out}
-use lib.ListN.{length}
-use Rattle.transit.specs.Message.{picks, relabelled}
-use Rattle.transit.specs.Lists.{indexOf}
-use Rattle.transit.specs.Unread.{view}
-use Rattle.transit.specs.Laws.Slots.{get-slot, store-slot}
-use Rattle.transit.specs.Laws.Indices.{changeFirst-sets}
-use Rattle.transit.proofs.Slots.{blank}
 use Rattle.transit.proofs.relabel.relabel_first.Statement.{statement}
 use Rattle.transit.proofs.relabel.relabel_first.Tie as tie
 
-index-of-requires : tie.Need-index-of-requires
-index-of-requires c κs = search needs
+-- The walk came to the pair's first slot at the place.
+is-reached : (h : tie.After-seek) → let a = h .before .before .before .before .before .args in
+    Index (columnsOf (a .slots .now)) → Reached (columnsOf (a .slots .now)) (pairOf (a .a) (a .b)) (placeNumber (a .from)) (h .seek .result)
+is-reached h x =
+    rw (h .before .before .before .before .pair-of .ensures, h .before .before .before .number .ensures) at (h .seek .ensures x)
 
-held-requires : tie.Need-held-requires
-held-requires c κs = search needs
+pair-of-requires : tie.Need-pair-of-requires
+pair-of-requires c κs = search needs
 
-mul-m : tie.Need-mul-m
-mul-m c = search needs
+number-requires : tie.Need-number-requires
+number-requires c κs = search needs
 
-element-copy-out-m : tie.Need-element-copy-out-m
-element-copy-out-m c = search needs
+number-requires-2 : tie.Need-number-requires-2
+number-requires-2 c κs = search needs
 
-relabelled-requires : tie.Need-relabelled-requires
-relabelled-requires c κs = search needs
+cast-seek : tie.Need-cast-seek
+cast-seek c = search needs
 
-mul-moved : tie.Need-mul-moved
-mul-moved c = search needs
+seek-requires : tie.Need-seek-requires
+seek-requires c κs = search needs
 
-element-set-from-moved : tie.Need-element-set-from-moved
-element-set-from-moved c = search needs
+cast-slots : tie.Need-cast-slots
+cast-slots c = search needs
+
+add-slots : tie.Need-add-slots
+add-slots c = search needs
+
+mul-slots : tie.Need-mul-slots
+mul-slots c = search needs
+
+element-write-slots : tie.Need-element-write-slots
+element-write-slots c = search needs
 
 returns : tie.Need-returns
 returns c =
-    let found = c .before .before .before .before .index-of in
-    let args = c .before .before .before .before .before .args in
-    let l = view (args .t1) .messages in
-    let held : found .result < length l = omega arith in
-    rw (
-      store-slot (args .t1 .count) (args .t1 .messages) (found .result) (c .relabelled .result) held,
-      c .relabelled .ensures,
-      changeFirst-sets (picks (args .s)) (relabelled (args .place)) l blank,
-      ← found .ensures,
-      get-slot _ _ _ blank held,
-    )
+    let h = c .before in
+    let start = h .before .before .before .before .before in
+    let a = start .args in
+    let pre = start .pre in
+    λ v d.
+    rw (h .before .before .number2 .ensures)
+    (first-changed d (a .a) (a .b) (pre .0) (pre .1) (a .from) (is-reached h (d .index)) (c .if1 .taken) (a .to))
 
 returns-2 : tie.Need-returns-2
 returns-2 c =
-    let args = c .before .before .before .args in
-    let l = view (args .t1) .messages in
-    let past : length l ≤ indexOf (picks (args .s)) l = omega arith in
-    rw (changeFirst-sets (picks (args .s)) (relabelled (args .place)) l blank, set-out l _ _ past)
+    let h = c .before in
+    let start = h .before .before .before .before .before in
+    let a = start .args in
+    let pre = start .pre in
+    λ v d. first-unchanged d (a .a) (a .b) (pre .0) (pre .1) (a .from) (is-reached h (d .index)) (a .to) (c .if1 .left)
 
 pub relabel-first-spec : {M : Type 1} → statement M
 relabel-first-spec =
     tie.close
     (tie.spec
-    index-of-requires
-    held-requires
-    mul-m
-    element-copy-out-m
-    relabelled-requires
-    mul-moved
-    element-set-from-moved
+    pair-of-requires
+    number-requires
+    number-requires-2
+    cast-seek
+    seek-requires
+    cast-slots
+    add-slots
+    mul-slots
+    element-write-slots
     returns
     returns-2)

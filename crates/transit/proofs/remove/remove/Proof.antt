@@ -1,72 +1,136 @@
--- `transit::remove::remove` meets its contract: the search finds the head of place order, and the gap is closed where it stood.
--- Assumes nothing.
-use mathlib.Core.Path.{sym, ap, _∙_}
-use mathlib.Core.List.{List}
-use Prim.Native.Nat.{ℕ, _<_}
+-- `transit::remove::remove` meets its contract. Assumes nothing.
+use Prim.Native.Nat.{_+_, _<_, _≤_}
 use native.Mathlib.Omega.{arith}
-use borrow.Author.Needs.{needs}
 use lib.ListN.{getD}
-use Rattle.transit.specs.Unread.{Unread, view}
-use Rattle.transit.specs.declared.Message.{Message}
-use Rattle.transit.specs.Laws.Seek.{Stands, sought-nothing, sought-stands}
-use Rattle.transit.specs.Laws.Slots.{get-slot}
-use Rattle.transit.proofs.Slots.{blank, held-length}
+use Rattle.transit.specs.Columns.{FIRST, COUNT, UNREAD}
+use Rattle.transit.specs.Laws.Left.{at-inside, count-some, unread-some, has-left}
+use borrow.Author.Needs.{needs}
 use Rattle.transit.proofs.remove.remove.Statement.{statement}
 use Rattle.transit.proofs.remove.remove.Tie as tie
+use Rattle.transit.proofs.remove.remove.Reads as reads
+use Rattle.transit.proofs.remove.remove.Lts as lts
 
--- the messages, where one is found
-abbrev messages : tie.Else1 → List Message
-messages c = view (c .before .before .before .before .args .t1) .messages
+-- The pair's first slot is one, and the pair's count and the number of unread are at least 1.
+reads-inside : (h : tie.After-pair-of) → let s = h .before .args .slots .now in let p = h .pair-of .result in
+    (getD s (FIRST + p) 0 < 2048) × (1 ≤ getD s (COUNT + p) 0) × (1 ≤ getD s UNREAD 0)
+reads-inside h =
+    let a = h .before .args in
+    let pre = h .before .pre in
+    rw (h .pair-of .ensures) (
+      at-inside (a .a) (a .b) (pre .0) (pre .1 .0) (pre .1 .1 .0) (pre .1 .1 .1),
+      count-some (a .a) (a .b) (pre .0) (pre .1 .0) (pre .1 .1 .0) (pre .1 .1 .1),
+      unread-some (a .a) (a .b) (pre .0) (pre .1 .0) (pre .1 .1 .0) (pre .1 .1 .1),
+    )
 
--- where it is found
-abbrev at : tie.Else1 → ℕ
-at c = c .before .before .before .seek .result .best .at
+pair-of-requires : tie.Need-pair-of-requires
+pair-of-requires c κs = search needs
 
--- What is found there is the first in place order.
-stands : (c : tie.Else1) → Stands (c .before .before .before .before .args .s) (messages c) (at c) (getD (messages c) (at c) blank)
-stands c =
-    let search = c .before .before .before .seek in
-    sought-stands (c .before .before .before .before .args .s) (messages c) blank (search .result .best) (search .ensures .0) (omega arith)
+add-at : tie.Need-add-at
+add-at c = search needs
 
--- It stands in a slot.
-in-slots : (c : tie.Else1) → at c < 1024
-in-slots c =
-    let start = c .before .before .before .before in
-    omega (arith, stands c .inside, held-length (start .args .t1) _ (start .good .0))
+mul-at : tie.Need-mul-at
+mul-at c = search needs
 
-seek-requires : tie.Need-seek-requires
-seek-requires c κs = search needs
+element-copy-out-at : tie.Need-element-copy-out-at
+element-copy-out-at c = search needs
+
+cast-at : tie.Need-cast-at
+cast-at c = omega (arith, reads-inside (c .before) .0)
+
+mul-value : tie.Need-mul-value
+mul-value c = omega (arith, reads-inside (c .before) .0)
+
+element-copy-out-value : tie.Need-element-copy-out-value
+element-copy-out-value c = omega (arith, reads-inside (c .before) .0)
+
+add-next : tie.Need-add-next
+add-next c = omega (arith, reads-inside (c .before .before) .0)
+
+mul-next : tie.Need-mul-next
+mul-next c = omega (arith, reads-inside (c .before .before) .0)
+
+element-copy-out-next : tie.Need-element-copy-out-next
+element-copy-out-next c = omega (arith, reads-inside (c .before .before) .0)
+
+add-left : tie.Need-add-left
+add-left c = search needs
+
+mul-left : tie.Need-mul-left
+mul-left c = search needs
+
+element-copy-out-left : tie.Need-element-copy-out-left
+element-copy-out-left c = search needs
+
+sub-left : tie.Need-sub-left
+sub-left c = omega (arith, reads-inside (c .before .before .before .before) .1)
+
+element-copy-out-unread : tie.Need-element-copy-out-unread
+element-copy-out-unread c = search needs
+
+sub-unread : tie.Need-sub-unread
+sub-unread c = omega (arith, reads-inside (c .before .before .before .before .before) .2)
+
+mul-slots : tie.Need-mul-slots
+mul-slots c = omega (arith, reads-inside (c .before .before .before .before .before) .0)
+
+element-write-slots : tie.Need-element-write-slots
+element-write-slots c = omega (arith, reads-inside (c .before .before .before .before .before) .0)
+
+add-slots : tie.Need-add-slots
+add-slots c = search needs
+
+mul-slots-2 : tie.Need-mul-slots-2
+mul-slots-2 c = search needs
+
+element-write-slots-2 : tie.Need-element-write-slots-2
+element-write-slots-2 c = search needs
+
+add-slots-2 : tie.Need-add-slots-2
+add-slots-2 c = search needs
+
+mul-slots-3 : tie.Need-mul-slots-3
+mul-slots-3 c = search needs
+
+element-write-slots-3 : tie.Need-element-write-slots-3
+element-write-slots-3 c = search needs
+
+element-write-slots-4 : tie.Need-element-write-slots-4
+element-write-slots-4 c = search needs
 
 returns : tie.Need-returns
 returns c =
-    let search = c .before .before .before .seek in
-    let args = c .before .before .before .before .args in
-    (rw (sought-nothing (args .s) (view (args .t1) .messages) (search .result .best) (search .ensures .0) (c .if1 .taken)), search .ensures .1)
-
-mul-m : tie.Need-mul-m
-mul-m c = omega (arith, in-slots c)
-
-element-copy-out-m : tie.Need-element-copy-out-m
-element-copy-out-m c = in-slots c
-
-close-gap-requires : tie.Need-close-gap-requires
-close-gap-requires c κs = stands (c .before) .inside
-
-sub-left : tie.Need-sub-left
-sub-left c =
-    let found = c .before .before .before in
-    omega (arith, stands found .fewer, found .before .before .before .seek .ensures .1)
-
-returns-2 : tie.Need-returns-2
-returns-2 c =
-    let found = c .before .before .before in
-    let closed = c .before .close-gap .ensures in
-    let gone = ap (λ (u : Unread). u .messages) closed ∙ sym (stands found .leaves) in (
-      rw (stands found .first, stands found .leaves, closed, get-slot _ _ _ blank (stands found .inside)),
-      rw gone (omega (arith, stands found .fewer, found .before .before .before .seek .ensures .1)),
-    )
+    let h = c .before .before .before .before .before in
+    let a = h .before .args in
+    let pre = h .before .pre in
+    rw (h .pair-of .ensures) (has-left (a .a) (a .b) (pre .0) (pre .1 .0) (pre .1 .1 .0) (pre .1 .1 .1))
 
 pub remove-spec : {M : Type 1} → statement M
 remove-spec =
     tie.close
-    (tie.spec seek-requires returns mul-m element-copy-out-m close-gap-requires sub-left returns-2)
+    (tie.spec
+    pair-of-requires
+    add-at
+    mul-at
+    element-copy-out-at
+    cast-at
+    mul-value
+    element-copy-out-value
+    add-next
+    mul-next
+    element-copy-out-next
+    add-left
+    mul-left
+    element-copy-out-left
+    sub-left
+    element-copy-out-unread
+    sub-unread
+    mul-slots
+    element-write-slots
+    add-slots
+    mul-slots-2
+    element-write-slots-2
+    add-slots-2
+    mul-slots-3
+    element-write-slots-3
+    element-write-slots-4
+    returns)

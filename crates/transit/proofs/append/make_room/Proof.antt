@@ -1,0 +1,45 @@
+-- `transit::append::make_room` meets its contract: there is room, or the messages are unloaded and loaded again. Assumes nothing.
+use mathlib.Core.Path.{refl, ap, _∙_}
+use native.Mathlib.Omega.{arith}
+use lib.ListN.{length}
+use Rattle.transit.specs.Unread.{Unread}
+use Rattle.transit.specs.Laws.Columns.{tail-is}
+use Rattle.transit.specs.Laws.Mail.{ranked-in}
+use borrow.Author.Needs.{needs}
+use Rattle.transit.proofs.append.make_room.Statement.{statement}
+use Rattle.transit.proofs.append.make_room.Tie as tie
+
+element-copy-out-tail : tie.Need-element-copy-out-tail
+element-copy-out-tail c = search needs
+
+returns : tie.Need-returns
+returns c =
+    let start = c .before .before in
+    record { kept = start .pre; same = refl; room = omega (arith, tail-is (start .args .slots .now), c .if1 .taken) }
+
+unload-requires : tie.Need-unload-requires
+unload-requires c κs = search needs
+
+load-requires : tie.Need-load-requires
+load-requires c κs =
+    let start = c .before .before .before .before .before .before .before in
+    let d = start .pre in
+    let out = c .before .before .unload .ensures in
+    let list = ap (λ (u : Unread). u .messages) out in
+    let size = ap (λ (u : Unread). u .count) out in
+    (d .slots-long, (d .contents-long, (omega (arith, d .few), rw list (ranked-in (start .args .slots .now) (start .args .contents .now)))))
+
+returns-2 : tie.Need-returns-2
+returns-2 c =
+    let start = c .before .before .before .before .before .before .before .before in
+    let list = ap (λ (u : Unread). u .messages) (c .before .before .before .unload .ensures) in
+    let held = c .load .ensures in
+    record {
+      kept = held .kept;
+      same = held .same ∙ list;
+      room = omega (arith, held .packed, ap length list, start .pre .few);
+    }
+
+pub make-room-spec : {M : Type 1} → statement M
+make-room-spec =
+    tie.close (tie.spec element-copy-out-tail returns unload-requires load-requires returns-2)

@@ -1,0 +1,33 @@
+-- `transit::count::count_to` meets its contract. Assumes nothing.
+use mathlib.Core.Path.{_∙_}
+use native.Mathlib.Omega.{arith}
+use borrow.Author.Needs.{needs}
+use Rattle.transit.specs.Laws.Passes.{hits-tally}
+use Rattle.transit.specs.Laws.Places.{pickTo, picked-to}
+use Rattle.transit.specs.declared.Selection.the-variants.{ToAt}
+use Rattle.transit.proofs.count.count_to.Statement.{statement}
+use Rattle.transit.proofs.count.count_to.Tie as tie
+
+number-requires : tie.Need-number-requires
+number-requires c κs = search needs
+
+cast-t5 : tie.Need-cast-t5
+cast-t5 c = search needs
+
+cast-t6 : tie.Need-cast-t6
+cast-t6 c = search needs
+
+count-hits-requires : tie.Need-count-hits-requires
+count-hits-requires c κs = search needs
+
+returns : tie.Need-returns
+returns c =
+    let start = c .before .before .before in
+    let a = start .args in
+    λ v d.
+    rw (c .before .before .number .ensures) at (c .count-hits .ensures)
+    ∙ hits-tally d (ToAt (a .r) (a .place)) (pickTo (a .r) (a .place)) (omega arith)
+    (λ p n _ live placed. picked-to p n live placed (a .r) (a .place))
+
+pub count-to-spec : {M : Type 1} → statement M
+count-to-spec = tie.close (tie.spec number-requires cast-t5 cast-t6 count-hits-requires returns)

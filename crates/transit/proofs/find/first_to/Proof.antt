@@ -1,0 +1,102 @@
+-- `transit::find::first_to` meets its contract. Assumes nothing.
+use mathlib.Core.Path.{sym, ap}
+use Prim.Native.Nat.{_<_}
+use native.Mathlib.Omega.{arith}
+use Rattle.transit.specs.Columns.{columnsOf}
+use Rattle.transit.specs.Search.{Oldest}
+use Rattle.transit.specs.Unread.{head}
+use Rattle.transit.specs.Laws.Columns.{pair-at, place-at}
+use Rattle.transit.specs.Laws.Mail.{none-in, receiver-past}
+use Rattle.transit.specs.Laws.Oldest.{oldest-nothing, oldest-live, oldest-found}
+use borrow.Author.Needs.{needs}
+use Rattle.transit.proofs.find.first_to.Statement.{statement}
+use Rattle.transit.proofs.find.first_to.Tie as tie
+
+-- The slot found is the oldest to the receiver.
+is-oldest : (h : tie.After-wide) → let a = h .before .before .before .before .before .args in
+    Oldest (columnsOf (a .slots .now)) (a .r .0) 16 (h .wide .result)
+is-oldest h = rw (h .wide .ensures) (h .before .oldest .ensures)
+
+returns : tie.Need-returns
+returns c =
+    let start = c .before .before in
+    let a = start .args in
+    sym (ap head (none-in (a .slots .now) (a .contents .now) _ (λ m. receiver-past (a .r) m (c .if1 .taken))))
+
+cast-oldest : tie.Need-cast-oldest
+cast-oldest c = search needs
+
+oldest-requires : tie.Need-oldest-requires
+oldest-requires c κs = search needs
+
+wide-requires : tie.Need-wide-requires
+wide-requires c κs = search needs
+
+mul-message-of : tie.Need-mul-message-of
+mul-message-of c = search needs
+
+element-copy-out-message-of : tie.Need-element-copy-out-message-of
+element-copy-out-message-of c = search needs
+
+add-message-of : tie.Need-add-message-of
+add-message-of c = search needs
+
+mul-message-of-2 : tie.Need-mul-message-of-2
+mul-message-of-2 c = search needs
+
+element-copy-out-message-of-2 : tie.Need-element-copy-out-message-of-2
+element-copy-out-message-of-2 c = search needs
+
+mul-message-of-3 : tie.Need-mul-message-of-3
+mul-message-of-3 c = search needs
+
+element-copy-out-message-of-3 : tie.Need-element-copy-out-message-of-3
+element-copy-out-message-of-3 c = search needs
+
+message-of-requires : tie.Need-message-of-requires
+message-of-requires c κs =
+    let h = c .before .before .before .before in
+    let start = h .before .before .before .before .before in
+    let a = start .args in
+    let small = h .before .before .before .if1 .left in
+    let at = h .wide .result in
+    let inside : at < 2048 = omega arith in
+    rw (pair-at (a .slots .now) at inside) at (oldest-live (start .pre) (a .r) small (is-oldest h) inside)
+
+returns-2 : tie.Need-returns-2
+returns-2 c =
+    let h = c .before .before .before .before .before in
+    let start = h .before .before .before .before .before in
+    let a = start .args in
+    let small = h .before .before .before .if1 .left in
+    let at = h .wide .result in
+    let inside : at < 2048 = omega arith in
+    let found = oldest-found (start .pre) (a .r) small (is-oldest h) inside in
+    rw (c .message-of .ensures) (sym (rw (pair-at (a .slots .now) at inside, place-at (a .slots .now) at inside) at found))
+
+returns-3 : tie.Need-returns-3
+returns-3 c =
+    let h = c .before in
+    let start = h .before .before .before .before .before in
+    let a = start .args in
+    let small = h .before .before .before .if1 .left in
+    sym (ap head (oldest-nothing (start .pre) (a .r) small (is-oldest h) (c .if2 .left)))
+
+pub first-to-spec : {M : Type 1} → statement M
+first-to-spec =
+    tie.close
+    (tie.spec
+    returns
+    cast-oldest
+    oldest-requires
+    wide-requires
+    mul-message-of
+    element-copy-out-message-of
+    add-message-of
+    mul-message-of-2
+    element-copy-out-message-of-2
+    mul-message-of-3
+    element-copy-out-message-of-3
+    message-of-requires
+    returns-2
+    returns-3)

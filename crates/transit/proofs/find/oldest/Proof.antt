@@ -1,0 +1,79 @@
+-- `transit::find::oldest` meets its contract. The loop's invariant: `best` is the least of the first slots before `s`. Assumes nothing.
+use mathlib.Core.Logic.{⊎-elim}
+use Prim.Native.Nat.{_+_, _*_, _≤_, _-_}
+use mathlib.Core.Path.{_≡_}
+use native.Mathlib.Omega.{arith}
+use Rattle.transit.specs.Columns.{columnsOf}
+use Rattle.transit.specs.Search.{Oldest}
+use Rattle.transit.specs.Laws.Columns.{first-at}
+use Rattle.transit.specs.Laws.Oldest.{oldest-start, oldest-less, oldest-kept}
+use borrow.Author.Needs.{needs}
+use Rattle.transit.proofs.find.oldest.Statement.{statement}
+use Rattle.transit.proofs.find.oldest.Tie as tie
+
+abbrev Inv-loop : tie.InvT-loop
+Inv-loop r slots best₀ s₀ best s = (s ≤ 16) × Oldest (columnsOf slots) r s best
+
+abbrev μ-loop : tie.MeasureT-loop
+μ-loop r slots best₀ s₀ best s = 16 - s
+
+loop-holds : tie.Need-loop-holds Inv-loop μ-loop
+loop-holds c = (omega arith, oldest-start (columnsOf (c .args .slots .now)) (c .args .r))
+
+mul-first : tie.Need-mul-first Inv-loop μ-loop
+mul-first c = search needs
+
+add-first : tie.Need-add-first Inv-loop μ-loop
+add-first c = search needs
+
+add-first-2 : tie.Need-add-first-2 Inv-loop μ-loop
+add-first-2 c = search needs
+
+mul-first-2 : tie.Need-mul-first-2 Inv-loop μ-loop
+mul-first-2 c = search needs
+
+element-copy-out-first : tie.Need-element-copy-out-first Inv-loop μ-loop
+element-copy-out-first c = search needs
+
+add-s : tie.Need-add-s Inv-loop μ-loop
+add-s c = search needs
+
+loop-less : tie.Need-loop-less Inv-loop μ-loop
+loop-less c = search needs
+
+loop-again : tie.Need-loop-again Inv-loop μ-loop
+loop-again c =
+    let head = c .before .before .before in
+    let a = head .before .args in
+    let s = head .loop .s in
+    let cols = columnsOf (a .slots .now) in
+    let first = first-at (a .slots .now) (16 * s + a .r) (omega arith) in (
+      omega arith,
+      ⊎-elim
+          (λ w. rw (w .1, ← first) (oldest-less cols (a .r) (head .loop .inv .1) (omega (arith, w .0 .taken))))
+          (λ w. rw (w .1) (oldest-kept cols (a .r) (head .loop .inv .1) (omega (arith, w .0 .left))))
+          (c .if1 .came),
+    )
+
+returns : tie.Need-returns Inv-loop μ-loop
+returns c =
+    let here = c .before .loop in
+    let end : here .s ≡ 16 = omega arith in
+    rw end at (here .inv .1)
+
+pub oldest-spec : {M : Type 1} → statement M
+oldest-spec =
+    tie.close
+    (tie.spec
+    Inv-loop
+    μ-loop
+    loop-holds
+    mul-first
+    add-first
+    add-first-2
+    mul-first-2
+    element-copy-out-first
+    add-s
+    loop-less
+    loop-again
+    returns)

@@ -1,0 +1,42 @@
+-- `transit::relabel::relabel_to` meets its contract. Assumes nothing.
+use native.Mathlib.Omega.{arith}
+use Rattle.transit.specs.declared.Selection.the-variants.{ToAt}
+use Rattle.transit.specs.Laws.Passes.{pass-end}
+use Rattle.transit.specs.Laws.Places.{pickTo, picked-to}
+use borrow.Author.Needs.{needs}
+use Rattle.transit.proofs.relabel.relabel_to.Statement.{statement}
+use Rattle.transit.proofs.relabel.relabel_to.Tie as tie
+
+number-requires : tie.Need-number-requires
+number-requires c κs = search needs
+
+number-requires-2 : tie.Need-number-requires-2
+number-requires-2 c κs = search needs
+
+cast-t7 : tie.Need-cast-t7
+cast-t7 c = search needs
+
+cast-t8 : tie.Need-cast-t8
+cast-t8 c = search needs
+
+cast-pass : tie.Need-cast-pass
+cast-pass c = search needs
+
+pass-requires : tie.Need-pass-requires
+pass-requires c κs = search needs
+
+returns : tie.Need-returns
+returns c =
+    let start = c .before .before .before .before .before in
+    let a = start .args in
+    λ v d.
+    pass-end d (ToAt (a .r) (a .from)) (pickTo (a .r) (a .from)) (omega arith)
+    (λ p n _ live placed. picked-to p n live placed (a .r) (a .from))
+    (a .to)
+    (rw (c .before .before .before .before .number .ensures, c .before .before .before .number2 .ensures) at
+    (c .pass .ensures (d .slots-long)))
+
+pub relabel-to-spec : {M : Type 1} → statement M
+relabel-to-spec =
+    tie.close
+    (tie.spec number-requires number-requires-2 cast-t7 cast-t8 cast-pass pass-requires returns)

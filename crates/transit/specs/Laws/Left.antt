@@ -1,0 +1,124 @@
+-- The first message of a pair leaves: four stores in the slots.
+-- Assumes nothing.
+use mathlib.Core.List.{List}
+use mathlib.Core.Path.{_≡_, ap}
+use Prim.Native.Nat.{ℕ, _+_, _-_, _<_, _≤_}
+use native.Mathlib.Omega.{arith}
+use lib.ListN.{length, getD, set, length-set}
+use Rattle.transit.specs.Columns.{columnsOf, NEXT, FIRST, COUNT, UNREAD}
+use Rattle.transit.specs.Lists.{tally, without}
+use Rattle.transit.specs.Mail.{messagesIn, Mail, Left}
+use Rattle.transit.specs.Message.{between}
+use Rattle.transit.specs.Slots.{pairOf}
+use Rattle.transit.specs.declared.Rank.{Rank}
+use Rattle.transit.specs.Laws.Columns.{
+  column-sizes,
+  store-pair,
+  store-first,
+  store-count,
+  store-unread,
+  first-at,
+  next-at,
+  count-at,
+  unread-is,
+}
+use Rattle.transit.specs.Laws.Links.{read-by, first-some}
+use Rattle.transit.specs.Laws.Lists.{tally-bounded, length-without, tally-without}
+use Rattle.transit.specs.Laws.Mail.{count-in}
+use Rattle.transit.specs.Laws.Messages.{pair-small, take-messages, take-found}
+use Rattle.transit.specs.Laws.Take.{front, taken, take-index}
+
+-- the slots after the four stores, for the pair of a number
+abbrev pub without-first : List ℕ → ℕ → List ℕ
+without-first s p =
+    let at = getD s (FIRST + p) 0 in
+    set (set (set (set s at 256) (FIRST + p) (getD s (NEXT + at) 0)) (COUNT + p) (getD s (COUNT + p) 0 - 1)) UNREAD (getD s UNREAD 0 - 1)
+
+module _ {s v : List ℕ} (a b : Rank) (d : Mail s v) (small-a : a .0 < 16) (small-b : b .0 < 16)
+    (some : 0 < tally (between a b) (messagesIn s v)) where
+  -- The pair has a pair's number.
+  small : pairOf a b < 256
+  small = pair-small a b small-a small-b
+
+  -- The pair's count is what is unread of it.
+  count-is : getD s (COUNT + pairOf a b) 0 ≡ tally (between a b) (messagesIn s v)
+  count-is = count-in a b d small-a small-b
+
+  -- The pair has a first slot.
+  first-inside : front (columnsOf s) (pairOf a b) < 2048
+  first-inside =
+      first-some (d .index) (column-sizes s (d .slots-long)) (pairOf a b) small
+      (omega (arith, count-is, count-at s (pairOf a b) small))
+
+  -- The pair's first slot is one.
+  pub at-inside : getD s (FIRST + pairOf a b) 0 < 2048
+  at-inside = omega (arith, first-at s (pairOf a b) small, first-inside)
+
+  -- The pair has one at least.
+  pub count-some : 1 ≤ getD s (COUNT + pairOf a b) 0
+  count-some = omega (arith, count-is, some)
+
+  -- One at least is unread in all.
+  pub unread-some : 1 ≤ getD s UNREAD 0
+  unread-some = omega (arith, unread-is s, d .stored, tally-bounded (between a b) (messagesIn s v), some)
+
+  -- The columns after the four stores.
+  columns-left : columnsOf (without-first s (pairOf a b)) ≡ taken (columnsOf s) (pairOf a b)
+  columns-left =
+      let p = pairOf a b in
+      let at = getD s (FIRST + p) 0 in
+      let s1 = set s at 256 in
+      let s2 = set s1 (FIRST + p) (getD s (NEXT + at) 0) in
+      let s3 = set s2 (COUNT + p) (getD s (COUNT + p) 0 - 1) in
+      rw (
+        store-unread s3 (getD s UNREAD 0 - 1) (simp length-set (d .slots-long)),
+        store-count s2 p (getD s (COUNT + p) 0 - 1) small,
+        store-first s1 p (getD s (NEXT + at) 0) small,
+        store-pair s at 256 at-inside,
+        first-at s p small,
+        next-at s at at-inside,
+        count-at s p small,
+        unread-is s,
+      )
+
+  -- The pair's first message is no longer there.
+  same-left : messagesIn (without-first s (pairOf a b)) v ≡ without (between a b) (messagesIn s v)
+  unfolding messagesIn
+  same-left =
+      rw columns-left (take-messages a b small-a small-b (d .index) v (column-sizes s (d .slots-long)) first-inside)
+
+  -- The arrays hold what they must.
+  kept-left : Mail (without-first s (pairOf a b)) v
+  kept-left =
+      let c = columnsOf s in
+      let z = column-sizes s (d .slots-long) in
+      let p = pairOf a b in
+      let fewer = length-without (between a b) (messagesIn s v) some in
+      let same = ap length same-left in
+      record {
+        slots-long = simp length-set (d .slots-long);
+        contents-long = d .contents-long;
+        index = rw columns-left (take-index (d .index) z p small first-inside);
+        placed = λ k h live.
+            rw columns-left (d .placed k h
+            (read-by (c .pairs) (front c p) 256 (omega (arith, z .pairs-long, first-inside)) (λ q. q < 256 → getD (c .pairs) k 0 < 256) k
+            (λ _ l. absurd (omega arith)) (λ _ l. l) (rw columns-left at live)));
+        within = rw columns-left (d .within);
+        stored = rw columns-left (omega (arith, d .stored));
+        few = omega (arith, d .few);
+      }
+
+  -- What has left.
+  pub has-left : Left a b s v (getD v (getD s (FIRST + pairOf a b) 0) 0) (getD s (COUNT + pairOf a b) 0 - 1) (without-first s (pairOf a b))
+  unfolding messagesIn
+  has-left =
+      let p = pairOf a b in
+      let z = column-sizes s (d .slots-long) in
+      let found = take-found a b small-a small-b (d .index) v z first-inside in
+      let fewer = tally-without (between a b) (between a b) (λ x e. e) (messagesIn s v) some in
+      record {
+        kept = kept-left;
+        same = same-left;
+        found = rw (found .1, first-at s p small);
+        pair = rw same-left (omega (arith, count-is));
+      }

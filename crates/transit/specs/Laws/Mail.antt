@@ -1,0 +1,62 @@
+-- What the layers above may know of the messages in the lent arrays: their ranks, and what the stored numbers count.
+-- Assumes nothing.
+use mathlib.Core.Bool.{Bool, true, false, not}
+use mathlib.Core.List.{List, []}
+use mathlib.Core.Path.{_≡_, sym, _∙_}
+use Prim.Native.Nat.{ℕ, _+_, _<_, _≤_}
+use native.Mathlib.Omega.{arith}
+use borrow.Author.Tests.{ne-eqb, ltb-true}
+use lib.Dec.{ltb}
+use lib.ListN.{length, getD}
+use Rattle.transit.specs.Columns.{columnsOf, COUNT, UNREAD}
+use Rattle.transit.specs.Lists.{select, tally, every}
+use Rattle.transit.specs.Mail.{messagesIn, Mail}
+use Rattle.transit.specs.Message.{sameRank, to, between}
+use Rattle.transit.specs.Slots.{pairOf, ranked}
+use Rattle.transit.specs.declared.Message.{Message}
+use Rattle.transit.specs.declared.Rank.{Rank}
+use Rattle.transit.specs.Laws.Columns.{count-at, unread-is}
+use Rattle.transit.specs.Laws.Lists.{every-wider, select-none}
+use Rattle.transit.specs.Laws.Messages.{held-ranked, pair-small, count-messages}
+use Rattle.transit.specs.Laws.Tests.{by-test, both-left, both-right}
+
+-- Both ranks of each message are below sixteen.
+pub ranked-in : (s v : List ℕ) → every ranked (messagesIn s v) ≡ true
+unfolding messagesIn
+ranked-in s v = held-ranked (columnsOf s .places) v 0 (columnsOf s .pairs)
+
+-- The number stored is how many messages are unread.
+pub unread-in : {s v : List ℕ} → Mail s v → getD s UNREAD 0 ≡ length (messagesIn s v)
+unread-in {s} {v} d = sym (unread-is s) ∙ d .stored
+
+-- The number stored for a pair is how many of its messages are unread.
+pub count-in : {s v : List ℕ} (a b : Rank) → Mail s v → a .0 < 16 → b .0 < 16
+    → getD s (COUNT + pairOf a b) 0 ≡ tally (between a b) (messagesIn s v)
+unfolding messagesIn
+count-in {s} {v} a b d small-a small-b =
+    sym (count-at s (pairOf a b) (pair-small a b small-a small-b)) ∙ count-messages a b small-a small-b (d .index) v
+
+-- What passes at no message between ranks passes at none.
+pub none-in : (s v : List ℕ) (q : Message → Bool) → ((m : Message) → ranked m ≡ true → q m ≡ false) → select q (messagesIn s v) ≡ []
+none-in s v q never =
+    select-none q (messagesIn s v) (every-wider ranked (λ m. not (q m)) (λ m h. rw (never m h)) (messagesIn s v) (ranked-in s v))
+
+-- No message is from a rank past the sixteen.
+pub sender-past : (a : Rank) (m : Message) → 16 ≤ a .0 → ranked m ≡ true → sameRank (m .sender) a ≡ false
+sender-past a m past h =
+    ne-eqb (m .sender .0) (a .0) (λ e. omega (arith, e, ltb-true (m .sender .0) 16 (both-left (ltb (m .sender .0) 16) _ h)))
+
+-- No message is to a rank past the sixteen.
+pub receiver-past : (b : Rank) (m : Message) → 16 ≤ b .0 → ranked m ≡ true → to b m ≡ false
+receiver-past b m past h =
+    ne-eqb (m .receiver .0) (b .0)
+    (λ e. omega (arith, e, ltb-true (m .receiver .0) 16 (both-right (ltb (m .sender .0) 16) _ h)))
+
+-- No message is of a pair whose sender is past the sixteen.
+pub between-past-sender : (a b : Rank) (m : Message) → 16 ≤ a .0 → ranked m ≡ true → between a b m ≡ false
+between-past-sender a b m past h = rw (sender-past a m past h)
+
+-- No message is of a pair whose receiver is past the sixteen.
+pub between-past-receiver : (a b : Rank) (m : Message) → 16 ≤ b .0 → ranked m ≡ true → between a b m ≡ false
+between-past-receiver a b m past h =
+    by-test (sameRank (m .sender) a) (λ e. rw (e, receiver-past b m past h)) (λ e. rw e)

@@ -1,0 +1,34 @@
+-- What the operations on the unread messages do, for the layers above: these do not open them, and cite these laws. Assumes nothing.
+use mathlib.Core.Path.{_≡_, refl}
+use mathlib.Core.Bool.{false}
+use mathlib.Core.List.{[], _∷_, _++_}
+use Prim.Native.Nat.{ℕ, _+_, _<_}
+use borrow.Author.Tests.{lt-ltb}
+use Rattle.transit.specs.Message.{placeOrder}
+use Rattle.transit.specs.Unread.{Unread, AfterAppend, limit, head, eachTo, firstTo, appended, relabelAll, relabelFirst, leave, removed}
+use Rattle.transit.specs.declared.Message.{Message}
+use Rattle.transit.specs.declared.Place.{Place}
+use Rattle.transit.specs.declared.Selection.{Selection}
+
+-- where there is room the new message comes last
+pub appends :
+    (u : Unread) (m : Message) → u .count < limit →
+    appended u m ≡ record { full = false; unread = record { messages = u .messages ++ (m ∷ []); count = u .count + 1 } }
+unfolding appended
+appends u m room = rw (lt-ltb (u .count) limit room)
+
+module _ (s : Selection) (u : Unread) where
+  -- each selected message is at the place, and nothing else changes
+  pub relabels : (p : Place) → relabelAll s p u ≡ record { messages = eachTo s p (u .messages); count = u .count }
+  unfolding relabelAll
+  relabels p = refl
+
+  -- the selected message that was sent first is at the place, and nothing else changes
+  pub relabels-first : (p : Place) → relabelFirst s p u ≡ record { messages = firstTo s p (u .messages); count = u .count }
+  unfolding relabelFirst
+  relabels-first p = refl
+
+  -- what leaves is the first of the selected messages in place order
+  pub removes : removed s u ≡ leave s u (head (placeOrder s (u .messages)))
+  unfolding removed
+  removes = refl

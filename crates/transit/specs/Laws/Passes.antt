@@ -1,0 +1,158 @@
+-- Passes over all slots: one slot further, how many messages they count, and what they leave.
+-- Assumes nothing.
+use mathlib.Core.Bool.{Bool, true, false, cond}
+use mathlib.Core.List.{List}
+use mathlib.Core.Path.{_≡_, refl, sym, ap, _∙_}
+use Prim.Native.Nat.{ℕ, zero, suc, _+_, _<_, _≤_}
+use native.Mathlib.Numerals.{add-one}
+use native.Mathlib.Omega.{arith}
+use borrow.Author.Tests.{eqb-true, eqb-false, le-ltb, ltb-true, ltb-false}
+use lib.Dec.{eqb, leb, ltb}
+use lib.ListN.{length, getD, set, take, length-set, length-map}
+use lib.Seq.{getD-set-same, getD-set-other, take-all}
+use Rattle.transit.specs.Columns.{Columns, columnsOf, PLACES}
+use Rattle.transit.specs.Lists.{tally, changeEach}
+use Rattle.transit.specs.Mail.{messagesIn, Mail, Relabelled}
+use Rattle.transit.specs.Message.{placeNumber, picks, relabelled}
+use Rattle.transit.specs.Pick.{picked, hits, Passed}
+use Rattle.transit.specs.Slots.{held, messageOf, messageAt}
+use Rattle.transit.specs.Unread.{eachTo}
+use Rattle.transit.specs.declared.Place.{Place}
+use Rattle.transit.specs.declared.Selection.{Selection}
+use Rattle.transit.specs.declared.pick.Pick.{Pick}
+use Rattle.transit.specs.Laws.Columns.{column-sizes, store-place, pair-at, place-at}
+use Rattle.transit.specs.Laws.Held.{held-map, held-live, held-gone}
+use Rattle.transit.specs.Laws.Links.{index-places}
+use Rattle.transit.specs.Laws.Lists.{tally-append}
+use Rattle.transit.specs.Laws.Messages.{place-back}
+use Rattle.transit.specs.Laws.Order.{place-below-four}
+use Rattle.transit.specs.Laws.Tests.{by-test}
+
+-- A slot counts once at most.
+pub one-at-most : (b : Bool) → cond b 1 0 ≤ 1
+one-at-most true = omega arith
+one-at-most false = omega arith
+
+-- No more slots are picked than were passed.
+pub hits-few : (w : Pick) (c : Columns) (i : ℕ) → hits w c i ≤ i
+unfolding hits
+hits-few w c zero = omega arith
+hits-few w c (suc i) =
+    omega (arith, hits-few w c i, one-at-most (picked w (getD (c .pairs) i 0) (getD (c .places) i 0)))
+
+-- A slot of no pair is not picked.
+dead-other : (w : Pick) (p n : ℕ) → w .high ≤ 256 → 256 ≤ p → picked w p n ≡ false
+dead-other w p n top dead =
+    by-test (leb (w .low) p) (λ e. rw (e, le-ltb p (w .high) (omega arith))) (λ e. rw e)
+
+-- Before a pass nothing has changed.
+pub pass-start : (w : Pick) (to : ℕ) (s : List ℕ) → length s ≡ 6914 → Passed w to s 0 0 s
+unfolding hits
+pass-start w to s long = record {
+  long = long;
+  others = refl;
+  done = λ k h. absurd (omega arith);
+  rest = λ k _. refl;
+  counted = refl;
+}
+
+-- A pass has come one slot further.
+pub pass-next : {w : Pick} {to : ℕ} {s s' : List ℕ} {i n : ℕ} → i < 2048 → Passed w to s i n s'
+    → let hit = picked w (getD s' i 0) (getD s' (PLACES + i) 0) in
+    Passed w to s (i + 1) (n + cond hit 1 0) (set s' (PLACES + i) (cond hit to (getD s' (PLACES + i) 0)))
+unfolding hits
+pass-next {w} {to} {s} {s'} {i} {n} inside g =
+    let c = columnsOf s in
+    let hit = picked w (getD s' i 0) (getD s' (PLACES + i) 0) in
+    let x = cond hit to (getD s' (PLACES + i) 0) in
+    let stored = store-place s' i x inside in
+    let places = columnsOf s' .places in
+    let fits : i < length places = omega (arith, column-sizes s' (g .long) .places-long) in
+    let pair : getD s' i 0 ≡ getD (c .pairs) i 0 =
+    sym (pair-at s' i inside) ∙ ap (λ (y : Columns). getD (y .pairs) i 0) (g .others) in
+    let place : getD s' (PLACES + i) 0 ≡ getD (c .places) i 0 = sym (place-at s' i inside) ∙ g .rest i (omega arith) in
+    record {
+      long = length-set s' (PLACES + i) x ∙ g .long;
+      others = rw (stored, g .others);
+      done = λ k h. rw stored (by-test (eqb k i)
+          (λ e. rw (eqb-true k i e, getD-set-same places i x 0 fits, pair, place))
+          (λ e. let ne = eqb-false k i e in getD-set-other places i k x 0 ne ∙ g .done k (omega (arith, ne))));
+      rest = λ k h. rw stored (getD-set-other places i k x 0 (λ e. omega (arith, e)) ∙ g .rest k (omega arith));
+      counted = rw (add-one, g .counted, pair, place);
+    }
+
+module _ {s v : List ℕ} (d : Mail s v) (sel : Selection) (w : Pick) (top : w .high ≤ 256)
+    (agree : (p n x : ℕ) → p < 256 → n < 4 → picks sel (messageOf p n x) ≡ picked w p n) where
+  -- A live slot is picked if its message is selected.
+  here : (k : ℕ) → k < 2048 → getD (columnsOf s .pairs) k 0 < 256
+      → picks sel (messageAt (columnsOf s .places) v k (getD (columnsOf s .pairs) k 0))
+      ≡ picked w (getD (columnsOf s .pairs) k 0) (getD (columnsOf s .places) k 0)
+  here k h live = agree _ _ _ live (d .placed k h live)
+
+  -- As many of the first slots are picked as of their messages are selected.
+  hits-held : (i : ℕ) → i ≤ 2048
+      → hits w (columnsOf s) i ≡ tally (picks sel) (held (messageAt (columnsOf s .places) v) 0 (take i (columnsOf s .pairs)))
+  unfolding hits
+  hits-held zero fits = refl
+  hits-held (suc i) fits =
+      let c = columnsOf s in
+      let f = messageAt (c .places) v in
+      let p = getD (c .pairs) i 0 in
+      let fits' : i < length (c .pairs) = omega (arith, column-sizes s (d .slots-long) .pairs-long) in
+      let before = hits-held i (omega arith) in
+      by-test (ltb p 256)
+      (λ e.
+      let live = ltb-true p 256 e in
+      let grown = rw add-one at (held-live f (c .pairs) i fits' live) in
+      rw (grown, tally-append, before) (by-test (picked w p (getD (c .places) i 0))
+      (λ h. rw (here i (omega arith) live, h))
+      (λ h. rw (here i (omega arith) live, h))))
+      (λ e.
+      let dead = ltb-false p 256 e in
+      let same = rw add-one at (held-gone f (c .pairs) i fits' dead) in
+      rw (same, dead-other w p (getD (c .places) i 0) top dead) (omega (arith, before)))
+
+  -- As many slots are picked as messages are selected.
+  pub hits-tally : hits w (columnsOf s) 2048 ≡ tally (picks sel) (messagesIn s v)
+  unfolding messagesIn
+  hits-tally =
+      let c = columnsOf s in
+      let all : take 2048 (c .pairs) ≡ c .pairs = take-all 2048 (c .pairs) (omega (arith, column-sizes s (d .slots-long) .pairs-long)) in
+      hits-held 2048 (omega arith) ∙ rw all
+
+  module _ (to : Place) {n : ℕ} {s' : List ℕ} (g : Passed w (placeNumber to) s 2048 n s') where
+    -- Each selected message is at the place.
+    pass-same : messagesIn s' v ≡ eachTo sel to (messagesIn s v)
+    unfolding messagesIn
+    pass-same =
+        let c = columnsOf s in
+        let f = messageAt (c .places) v in
+        let f' = messageAt (columnsOf s' .places) v in
+        rw (g .others) (held-map f f' (changeEach (picks sel) (relabelled to)) 0 (c .pairs) (λ k h live.
+        let z : 0 + k ≡ k = omega arith in
+        let inside : k < 2048 = omega (arith, column-sizes s (d .slots-long) .pairs-long) in
+        rw (z, g .done k inside) (by-test (picked w (getD (c .pairs) k 0) (getD (c .places) k 0))
+        (λ e. rw (here k inside live, e, place-back to))
+        (λ e. rw (here k inside live, e)))))
+
+    -- What a whole pass leaves.
+    pub pass-end : Relabelled sel to s v n s'
+    pass-end =
+        let c = columnsOf s in
+        let pairs-same : columnsOf s' .pairs ≡ c .pairs = ap (λ (y : Columns). y .pairs) (g .others) in
+        let same-length : length (messagesIn s' v) ≡ length (messagesIn s v) = ap length pass-same ∙ simp length-map in
+        record {
+          kept = record {
+            slots-long = g .long;
+            contents-long = d .contents-long;
+            index = rw (g .others) (index-places (columnsOf s' .places) (d .index));
+            placed = λ k h live. rw (g .done k h) (by-test (picked w (getD (c .pairs) k 0) (getD (c .places) k 0))
+                (λ e. rw e (place-below-four to))
+                (λ e. rw e (d .placed k h (rw pairs-same at live))));
+            within = rw (g .others) (d .within);
+            stored = ap (λ (y : Columns). y .unread) (g .others) ∙ d .stored ∙ sym same-length;
+            few = omega (arith, d .few);
+          };
+          same = pass-same;
+          moved = g .counted ∙ hits-tally;
+        }

@@ -1,0 +1,70 @@
+-- The unread messages in place: what the lent arrays hold, when they hold it, and what each routine makes of it.
+-- Paper 01, "Names and places". Assumes nothing.
+use mathlib.Core.List.{List, [], _∷_, _++_}
+use mathlib.Core.Path.{_≡_}
+use Prim.Native.Nat.{ℕ, _<_, _≤_}
+use lib.ListN.{length, getD}
+use Rattle.transit.specs.Columns.{columnsOf}
+use Rattle.transit.specs.Index.{Index}
+use Rattle.transit.specs.Lists.{select, tally, without}
+use Rattle.transit.specs.Message.{between, picks}
+use Rattle.transit.specs.Slots.{messagesOf}
+use Rattle.transit.specs.Unread.{Unread, counted, limit, head, valueIn, eachTo, firstTo}
+use Rattle.transit.specs.declared.Message.{Message}
+use Rattle.transit.specs.declared.Place.{Place}
+use Rattle.transit.specs.declared.Rank.{Rank}
+use Rattle.transit.specs.declared.Selection.{Selection}
+
+-- the unread messages in order of sending
+unfoldable pub messagesIn : List ℕ → List ℕ → List Message
+messagesIn slots contents = messagesOf (columnsOf slots) contents
+
+-- the unread messages, counted
+abbrev pub unreadIn : List ℕ → List ℕ → Unread
+unreadIn slots contents = counted (messagesIn slots contents)
+
+-- what holds of the lent arrays before and after each routine
+pub record Mail (slots contents : List ℕ) : Type 0 where
+  pub slots-long : length slots ≡ 6914
+  pub contents-long : length contents ≡ 2048
+  pub index : Index (columnsOf slots)
+  pub placed : (k : ℕ) → k < 2048 → getD (columnsOf slots .pairs) k 0 < 256 → getD (columnsOf slots .places) k 0 < 4
+  pub within : columnsOf slots .tail ≤ 2048
+  pub stored : columnsOf slots .unread ≡ length (messagesIn slots contents)
+  pub few : length (messagesIn slots contents) ≤ limit
+
+-- the arrays hold just these messages, packed to the front
+pub record Loaded (l : List Message) (slots contents : List ℕ) : Type 0 where
+  pub kept : Mail slots contents
+  pub same : messagesIn slots contents ≡ l
+  pub packed : columnsOf slots .tail ≡ length l
+
+-- the messages are as they were, and there is room at the tail
+pub record Roomy (slots contents slots' contents' : List ℕ) : Type 0 where
+  pub kept : Mail slots' contents'
+  pub same : messagesIn slots' contents' ≡ messagesIn slots contents
+  pub room : columnsOf slots' .tail < 2048
+
+-- the message is behind all others; n of its pair are unread
+pub record Appended (m : Message) (slots contents : List ℕ) (n : ℕ) (slots' contents' : List ℕ) : Type 0 where
+  pub kept : Mail slots' contents'
+  pub same : messagesIn slots' contents' ≡ messagesIn slots contents ++ (m ∷ [])
+  pub pair : n ≡ tally (between (m .sender) (m .receiver)) (messagesIn slots' contents')
+
+-- the first message of the pair has left: its value, and how many of the pair are left
+pub record Left (a b : Rank) (slots contents : List ℕ) (value rest : ℕ) (slots' : List ℕ) : Type 0 where
+  pub kept : Mail slots' contents
+  pub same : messagesIn slots' contents ≡ without (between a b) (messagesIn slots contents)
+  pub found : value ≡ valueIn (head (select (between a b) (messagesIn slots contents)))
+  pub pair : rest ≡ tally (between a b) (messagesIn slots' contents)
+
+-- the selected messages, n of them, are at the place
+pub record Relabelled (s : Selection) (p : Place) (slots contents : List ℕ) (n : ℕ) (slots' : List ℕ) : Type 0 where
+  pub kept : Mail slots' contents
+  pub same : messagesIn slots' contents ≡ eachTo s p (messagesIn slots contents)
+  pub moved : n ≡ tally (picks s) (messagesIn slots contents)
+
+-- the selected message that was sent first is at the place
+pub record FirstRelabelled (s : Selection) (p : Place) (slots contents : List ℕ) (slots' : List ℕ) : Type 0 where
+  pub kept : Mail slots' contents
+  pub same : messagesIn slots' contents ≡ firstTo s p (messagesIn slots contents)

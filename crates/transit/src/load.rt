@@ -1,0 +1,92 @@
+// The messages go between the two forms: a `Transit`, which is handed over and saved, and the slots, which a run works on.
+ghost use mathlib.Core.Bool.{true};
+ghost use mathlib.Core.List.{List, []};
+ghost use mathlib.Core.Path.{_≡_};
+ghost use Prim.Native.Nat.{ℕ, _≤_};
+ghost use lib.ListN.{length};
+ghost use Rattle.transit.specs.Lists.{every};
+ghost use Rattle.transit.specs.Mail.{Mail, unreadIn, Loaded};
+ghost use Rattle.transit.specs.Slots.{ranked};
+ghost use Rattle.transit.specs.Unread.{view, limit};
+use crate::Contents;
+use crate::Slots;
+use crate::Transit;
+use crate::layout::COUNT;
+use crate::layout::DEAD;
+use crate::layout::FIRST;
+use crate::layout::NONE;
+use crate::layout::PAIRS;
+use crate::layout::PLACES;
+use crate::layout::SLOTS;
+use crate::layout::TAIL;
+use crate::layout::UNREAD;
+use crate::layout::message_of;
+use crate::tail::put;
+
+// No message is unread.
+pub fn clear(slots: &mut Slots)
+    requires { ⌜ length (now slots) ≡ 6914 ⌝ }
+    ensures { λ _. ⌜ ((contents : List ℕ) → length contents ≡ 2048 → Loaded [] (now (slots .exit)) contents) ⌝ }
+{
+    let mut i: usize = 0;
+    while i < SLOTS {
+        slots[i] = DEAD;
+        i += 1;
+    }
+    let mut p: usize = 0;
+    while p < PAIRS {
+        slots[FIRST + p] = NONE;
+        slots[COUNT + p] = 0;
+        p += 1;
+    }
+    slots[TAIL] = 0;
+    slots[UNREAD] = 0;
+}
+
+// The messages of a value stand in the slots, packed to the front.
+pub fn load(t: Transit, slots: &mut Slots, contents: &mut Contents)
+    requires { ⌜ length (now slots) ≡ 6914 ⌝ }
+    requires { ⌜ length (now contents) ≡ 2048 ⌝ }
+    requires { ⌜ t .count ≤ limit ⌝ }
+    requires { ⌜ every ranked (view t .messages) ≡ true ⌝ }
+    ensures { λ _. ⌜ Loaded (view t .messages) (now (slots .exit)) (now (contents .exit)) ⌝ }
+{
+    clear(slots);
+    let end = t.count;
+    let mut i: usize = 0;
+    while i < end {
+        let m = t.messages[i];
+        put(m, slots, contents);
+        i += 1;
+    }
+}
+
+// The messages of the slots as a value, in the room of `t`.
+pub fn unload_into(t: Transit, slots: &Slots, contents: &Contents) -> Transit
+    requires { ⌜ Mail (now slots) (now contents) ⌝ }
+    ensures { λ r. ⌜ view r ≡ unreadIn (now (slots .entry)) (now (contents .entry)) ⌝ }
+{
+    let mut value = t;
+    let end = slots[TAIL] as usize;
+    let mut n: usize = 0;
+    let mut i: usize = 0;
+    while i < end {
+        let pair = slots[i];
+        if pair < DEAD {
+            let m = message_of(pair, slots[PLACES + i], contents[i]);
+            value.messages[n] = m;
+            n += 1;
+        }
+        i += 1;
+    }
+    value.count = n;
+    value
+}
+
+// The messages of the slots as a value.
+pub fn unload(slots: &Slots, contents: &Contents) -> Transit
+    requires { ⌜ Mail (now slots) (now contents) ⌝ }
+    ensures { λ r. ⌜ view r ≡ unreadIn (now (slots .entry)) (now (contents .entry)) ⌝ }
+{
+    unload_into(Transit::fresh(), slots, contents)
+}
