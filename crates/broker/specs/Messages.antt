@@ -3,9 +3,7 @@
 use Prim.Native.Nat.{ℕ}
 use Rattle.transit.specs.Lists.{tally}
 use Rattle.transit.specs.Message.{between}
-use Rattle.transit.specs.Unread.{Unread, appended, AfterRemove, removed}
-use Rattle.transit.specs.declared.Found.{Found}
-use Rattle.transit.specs.declared.Found.the-variants.{First, Nothing}
+use Rattle.transit.specs.Unread.{appended, AfterRemove, removed, valueIn}
 use Rattle.transit.specs.declared.Message.{Message}
 use Rattle.transit.specs.declared.Place.{Place}
 use Rattle.transit.specs.declared.Place.the-variants.{SourceChannel, Channel}
@@ -37,11 +35,6 @@ afterSend a b v s = withUnread (appended (s .unread) (sentMessage a b v s) .unre
 -- "v1 unread of the pair afterwards"
 unfoldable pub send : Rank → Rank → ℕ → State → Done
 send a b v s = done (afterSend a b v s) (unreadBetween a b (afterSend a b v s)) 0 0
-
--- the value of what was found
-abbrev pub valueIn : Found → ℕ
-valueIn Nothing = 0
-valueIn (First m) = m .value
 
 abbrev pub afterTake : Rank → Rank → State → AfterRemove
 afterTake b a s = removed (Between a b) (s .unread)

@@ -33,6 +33,10 @@ leftBehind r u = relabelAll (ToAt r Channel) SourceChannel (relabelAll (ToAt r E
 abbrev pub await : Rank → Rank → Backlog → List Link → List Link
 await r p g ls = setLink ls r p (record { connection = linkAt ls r p .connection; backlog = g })
 
+-- how many awaits of r are not none
+abbrev pub awaitsOf : Rank → List Link → ℕ
+awaitsOf r ls = countRanks (λ p. not (isClear (linkAt ls r p .backlog)))
+
 -- "if r's line to s is plain, r's await is unheeded and s's line to r is notice; if it is notice, both r's await of s and s's await
 -- of r are marked. r's own lines become none."
 abbrev pub leaveOver : Connection → Rank → Rank → List Link → List Link

@@ -9,6 +9,7 @@ use borrow.Author.Tests.{lt-ltb}
 use lib.Dec.{eqb}
 use lib.ListN.{length}
 use Rattle.transit.specs.Laws.Lists.{select-map, without-head}
+use Rattle.transit.specs.Laws.Operations.{appends, relabels, relabels-first}
 use Rattle.transit.specs.Laws.Removed.{removed-sent-first}
 use Rattle.transit.specs.Lists.{select, without}
 use Rattle.transit.specs.Message.{between}
@@ -27,7 +28,7 @@ use Rattle.broker.specs.Laws.Logic.{not-both}
 use Rattle.broker.specs.Laws.Sound.{facts}
 use Rattle.broker.specs.Laws.Standings.{standings-with-status, standings-with-request, call-unseen, route-unseen}
 use Rattle.broker.specs.Life.{start, end}
-use Rattle.broker.specs.Messages.{send, take, look, afterTake}
+use Rattle.broker.specs.Messages.{sentMessage, send, take, look, afterTake}
 use Rattle.broker.specs.Migrate.{move, heed, drain, land}
 use Rattle.broker.specs.Names.{endpoint, isMigrating}
 use Rattle.broker.specs.Sound.{sound}
@@ -55,23 +56,24 @@ start-core s r h = rw map-set
 
 send-core : (s : State) (a b : Rank) (v : ℕ) → SendFits s a b → core (send a b v s .state) ≡ coreStep (Send a b v) (core s)
 unfolding send
-send-core s a b v f = rw (lt-ltb (s .unread .count) limit (f .room), map-append)
+send-core s a b v f = rw (appends (s .unread) (sentMessage a b v s) (f .room), map-append)
 
 move-core : (s : State) (r : Rank) (h : ℕ) → core (move r h s .state) ≡ arrives r h (core s)
 unfolding move
-move-core s r h = rw (eachTo-letters, eachTo-letters, map-set)
+move-core s r h = rw (relabels, relabels, eachTo-letters, eachTo-letters, map-set)
 
 heed-core : (s : State) (b r : Rank) → core (heed b r s .state) ≡ core s
 unfolding heed
-heed-core s b r = rw eachTo-letters
+heed-core s b r = rw (relabels, eachTo-letters)
 
 drain-core : (s : State) (r p : Rank) → core (drain r p s .state) ≡ core s
-drain-core s r p = drain-cases (λ t. core t ≡ core s) r p s (rw firstTo-letters) refl
+drain-core s r p = drain-cases (λ t. core t ≡ core s) r p s (rw (relabels-first, firstTo-letters)) refl
 
 land-core : (s : State) (r : Rank) → LandFits s r → core (land r s .state) ≡ core s
 unfolding land
 land-core s r f =
     rw (
+      relabels,
       eachTo-letters,
       standings-with-status settled s r (Running (endpoint (status s r))) (at (status s r) (f .migrating)),
     )
@@ -84,7 +86,7 @@ land-core s r f =
 
 part-core : (s : State) (a b : Rank) → core (part a b s .state) ≡ core s
 unfolding part
-part-core s a b = rw (eachTo-letters, eachTo-letters)
+part-core s a b = rw (relabels, relabels, eachTo-letters, eachTo-letters)
 
 end-core : (s : State) (r : Rank) → core (end r s .state) ≡ coreStep (End r) (core s)
 unfolding end

@@ -2,6 +2,7 @@
 use mathlib.Core.List.{List}
 use mathlib.Core.Option.{Option}
 use Prim.Native.Nat.{ℕ}
+use Rattle.transit.specs.Unread
 use Rattle.transit.specs.declared.Rank.{Rank}
 use Rattle.broker.specs.Checks
 use Rattle.broker.specs.Connect
@@ -22,5 +23,5 @@ openedChecks s r = Checks.refusal s r
 
 -- a step of a sound state; where this is opened, all that it computes with is open
 unfoldable pub opened : Rank → State → List ℕ → ℕ → Outcome
-unfolding stepSound settle apply decode openedChecks Life.announced Life.start Life.end Connect.call Connect.route Connect.part Messages.send Messages.take Messages.look Migrate.leaveAll Migrate.move Migrate.heed Migrate.drain Migrate.land everyRank everyPair countRanks eachRank
+unfolding stepSound settle apply decode openedChecks Unread.appended Unread.relabelAll Unread.relabelFirst Unread.removed Life.announced Life.start Life.end Connect.call Connect.route Connect.part Messages.send Messages.take Messages.look Migrate.leaveAll Migrate.move Migrate.heed Migrate.drain Migrate.land everyRank everyPair countRanks eachRank
 opened named s log at = stepSound named s log at

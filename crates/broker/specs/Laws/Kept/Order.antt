@@ -10,9 +10,10 @@ use lib.Dec.{eqb, leb}
 use lib.ListN.{length, length-map}
 use Rattle.transit.specs.Lists.{select, every, without, changeEach, neverFalls}
 use Rattle.transit.specs.Message.{placeNumber, number, samePlace, sameRank, at, to, between, relabelled, placeOrder}
-use Rattle.transit.specs.Unread.{Unread, limit, counted, appended, head, firstSent, relabelAll, relabelFirst, leave}
+use Rattle.transit.specs.Unread.{Unread, limit, counted, appended, head, firstSent, eachTo, relabelAll, relabelFirst, leave}
 use Rattle.transit.specs.Laws.Lists.{every-always, every-both, every-wider, every-append, every-map, every-without, every-changeEach, every-changeFirst, every-selected, without-other, without-same, changeEach-keeps, map-follows, changeFirst-same, changeFirst-other}
 use Rattle.transit.specs.Laws.Order.{place-below-four, neverFalls-append, neverFalls-map, neverFalls-without}
+use Rattle.transit.specs.Laws.Operations.{appends, relabels, relabels-first, removes}
 use Rattle.transit.specs.Laws.Pairs.{places, append-length, append-places, append-keeps-places, firstTo-length}
 use Rattle.transit.specs.Laws.Tests.{by-test, both, both-left, both-right}
 use Rattle.transit.specs.declared.Found.{Found}
@@ -128,7 +129,7 @@ module _ (u : Unread) (o : InOrder u) where
   -- The first message of a pair on the lane to the mover goes to the mover's list: of the pair, those before it are there already.
   first-keeps : (a b : Rank) → InOrder (relabelFirst (BetweenAt a b SourceChannel) SourceList u)
   first-keeps a b =
-      record {
+      rw (relabels-first (BetweenAt a b SourceChannel) u SourceList) record {
         few = o .few;
         counted = firstTo-length (BetweenAt a b SourceChannel) SourceList (u .messages) ∙ o .counted;
         named = every-changeFirst isNamed on-lane (relabelled SourceList) (λ m h e. h) (u .messages) (o .named);
@@ -231,8 +232,9 @@ beside-list Channel = refl
 -- The lane to the current end is emptied into its list, for one pair.
 listed-keeps : (a b : Rank) (u : Unread) → InOrder u → InOrder (relabelAll (onChannel a b) EndList u)
 listed-keeps a b u o =
-    relabel-keeps (pair a b) Channel EndList u o
-    (every-always (aside (pair a b) Channel EndList) (λ m. or-right (not (between a b m)) (beside-list (m .place))) (u .messages))
+    rw (relabels (onChannel a b) u EndList)
+    (relabel-keeps (pair a b) Channel EndList u o
+    (every-always (aside (pair a b) Channel EndList) (λ m. or-right (not (between a b m)) (beside-list (m .place))) (u .messages)))
 
 -- The end of a call leaves the messages alone.
 withdraw-unread : (a b : Rank) (s : State) → withdraw a b s .unread ≡ s .unread
@@ -324,7 +326,7 @@ module _ (s : State) (f : Facts s) where
   send-keeps : (a b : Rank) (v : ℕ) → SendFits s a b → InOrder (appended (s .unread) (sentMessage a b v s) .unread)
   send-keeps a b v fits =
       let name : isNamed (sentMessage a b v s) ≡ true = rw (lt-ltb (a .0) 16 (fits .two .first), lt-ltb (b .0) 16 (fits .two .second), fits .two .apart) in
-      rw (lt-ltb (s .unread .count) limit (fits .room))
+      rw (appends (s .unread) (sentMessage a b v s) (fits .room))
       (append-keeps (s .unread) facts-order (sentMessage a b v s) (fits .room) name (sent-last a b (fits .two) (connection s a b) refl))
 
   -- A take removes what was found.
@@ -349,16 +351,19 @@ module _ (s : State) (f : Facts s) where
       (rw (sameRank-eq (m .receiver) r is, running-not-migrating (status s r) running) at (both-left (sourceFits s m) (laneFits s m) (source-and-lane s m h))))
       (messages s) (f .mail .places-fit))
       in
-      relabel-keeps (onlyTo r) Channel SourceChannel (relabelAll (ToAt r EndList) SourceList (s .unread)) lists
+      rw (relabels (ToAt r Channel) (relabelAll (ToAt r EndList) SourceList (s .unread)) SourceChannel, relabels (ToAt r EndList) (s .unread) SourceList)
+      (relabel-keeps (onlyTo r) Channel SourceChannel
+      (record { messages = eachTo (ToAt r EndList) SourceList (messages s); count = s .unread .count }) lists
       (every-changeEach (fitsPlace s) (λ m. to r m && at EndList m) (aside (onlyTo r) Channel SourceChannel) (relabelled SourceList)
       (λ m h e. or-right (not (to r m)) refl)
       (λ m h e. if-so (to r m) (outside 3 1 (number m)) λ is. off-list (m .place) (rw is at e))
-      (messages s) (f .mail .places-fit))
+      (messages s) (f .mail .places-fit)))
 
   -- A landing empties the mover's list of a rank that has nothing on the lane to the mover, since its awaits are clear.
   land-keeps : (r : Rank) → ((p : Rank) → p .0 < 16 → isClear (backlog s r p) ≡ true) → InOrder (relabelAll (ToAt r SourceList) EndList (s .unread))
   land-keeps r clear =
-      relabel-keeps (onlyTo r) SourceList EndList (s .unread) facts-order
+      rw (relabels (ToAt r SourceList) (s .unread) EndList)
+      (relabel-keeps (onlyTo r) SourceList EndList (s .unread) facts-order
       (every-both isNamed (fitsPlace s) (aside (onlyTo r) SourceList EndList)
       (λ m name h.
       let ranks = both-left (isRank (m .sender) && isRank (m .receiver)) (not (sameRank (m .sender) (m .receiver))) name in
@@ -366,7 +371,7 @@ module _ (s : State) (f : Facts s) where
       if-so (to r m) (outside 0 2 (number m)) λ is.
       off-lane (m .place)
       (rw (sameRank-eq (m .receiver) r is, clear (m .sender) sender) at (both-right (sourceFits s m) (laneFits s m) (source-and-lane s m h))))
-      (messages s) (f .mail .named) (f .mail .places-fit))
+      (messages s) (f .mail .named) (f .mail .places-fit)))
 
   -- Each kind keeps the facts.
   in-order-kept : (named : Rank) (r : Record) → Passes s r → InOrder (apply named r s .state .unread)
@@ -375,7 +380,8 @@ module _ (s : State) (f : Facts s) where
   in-order-kept named (Call a b) p = facts-order
   in-order-kept named (Route a b) p = rw (route-unread a b s) facts-order
   in-order-kept named (Send a b v) p = send-keeps a b v (send-fits s a b v p)
-  in-order-kept named (Take b a) p = take-keeps a b (head (placeOrder (Between a b) (messages s)))
+  in-order-kept named (Take b a) p =
+      rw (removes (Between a b) (s .unread)) (take-keeps a b (head (placeOrder (Between a b) (messages s))))
   in-order-kept named (Move r h) p = move-keeps r (move-fits s r h p .running)
   in-order-kept named (Heed b r) p = listed-keeps r b (s .unread) facts-order
   in-order-kept named (Drain r q) p = drain-keeps r q (firstSent (onSourceChannel q r) (s .unread))

@@ -7,6 +7,7 @@ use native.Mathlib.Omega.{arith}
 use borrow.Author.Tests.{eqb-true, lt-ltb}
 use lib.Dec.{T, eqb}
 use lib.ListN.{length}
+use Rattle.transit.specs.Laws.Operations.{appends, relabels, relabels-first, removes}
 use Rattle.transit.specs.Laws.Lists.{every-always, every-append, every-changeFirst, every-without, every-wider}
 use Rattle.transit.specs.Laws.Tests.{both, both-left, both-right}
 use Rattle.transit.specs.Lists.{every, changeEach, changeFirst, select, tally}
@@ -244,7 +245,8 @@ module _ (s : State) (f : Facts s) where
       views-of s (move r h s .state) Changes.moving (roleOf r) Changes.moving-keeps f (Effects.move-effect s f r h k)
       (Effects.move-self s f r h k)
       (λ m. changeEach (picks (ToAt r Channel)) (relabelled SourceChannel) (changeEach (picks (ToAt r EndList)) (relabelled SourceList) m))
-      (map-map (changeEach (picks (ToAt r Channel)) (relabelled SourceChannel)) (changeEach (picks (ToAt r EndList)) (relabelled SourceList)) (messages s))
+      (rw (relabels, relabels)
+      (map-map (changeEach (picks (ToAt r Channel)) (relabelled SourceChannel)) (changeEach (picks (ToAt r EndList)) (relabelled SourceList)) (messages s)))
       anew
       (every-always _ (λ m. any-message (roleOf r (m .receiver) (m .sender)) (m .place)) (messages s))
     where
@@ -265,7 +267,8 @@ module _ (s : State) (f : Facts s) where
   unfolding heed
   views-heed b r k =
       views-of s (heed b r s .state) Changes.heeding (roleBetween b r) Changes.heeding-keeps f (Effects.heed-effect s f b r k)
-      (Effects.heed-self s f b r k) (changeEach (picks (onChannel r b)) (relabelled EndList)) refl anew
+      (Effects.heed-self s f b r k) (changeEach (picks (onChannel r b)) (relabelled EndList))
+      (ap (λ (u : Unread). u .messages) (relabels (onChannel r b) (s .unread) EndList)) anew
       (every-always _ (λ m. any-message (roleBetween b r (m .receiver) (m .sender)) (m .place)) (messages s))
     where
       anew : (m : Message) → changeEach (picks (onChannel r b)) (relabelled EndList) m ≡ relabelled (byRole readPlace stays stays (roleBetween b r (m .receiver) (m .sender)) (m .place)) m
@@ -278,7 +281,8 @@ module _ (s : State) (f : Facts s) where
   unfolding land
   views-land r k =
       views-of s (land r s .state) Changes.landing (roleOf r) Changes.landing-keeps f (Effects.land-effect s f r k)
-      (Effects.land-self s f r k) (changeEach (picks (ToAt r SourceList)) (relabelled EndList)) refl anew
+      (Effects.land-self s f r k) (changeEach (picks (ToAt r SourceList)) (relabelled EndList))
+      (ap (λ (u : Unread). u .messages) (relabels (ToAt r SourceList) (s .unread) EndList)) anew
       (every-always _ (λ m. any-message (roleOf r (m .receiver) (m .sender)) (m .place)) (messages s))
     where
       anew : (m : Message) → changeEach (picks (ToAt r SourceList)) (relabelled EndList) m ≡ relabelled (byRole landedPlace stays stays (roleOf r (m .receiver) (m .sender)) (m .place)) m
@@ -293,7 +297,8 @@ module _ (s : State) (f : Facts s) where
       views-of s (part a b s .state) Changes.parting (roleBetween a b) Changes.parting-keeps f (Effects.part-effect s f a b k)
       (Effects.part-self s f a b k)
       (λ m. changeEach (picks (onChannel a b)) (relabelled EndList) (changeEach (picks (onChannel b a)) (relabelled EndList) m))
-      (map-map (changeEach (picks (onChannel a b)) (relabelled EndList)) (changeEach (picks (onChannel b a)) (relabelled EndList)) (messages s))
+      (rw (relabels, relabels)
+      (map-map (changeEach (picks (onChannel a b)) (relabelled EndList)) (changeEach (picks (onChannel b a)) (relabelled EndList)) (messages s)))
       anew
       (every-always _ (λ m. any-message (roleBetween a b (m .receiver) (m .sender)) (m .place)) (messages s))
     where
@@ -348,7 +353,7 @@ module _ (s : State) (f : Facts s) where
   unfolding send
   views-send a b v k =
       views-with (appended (s .unread) m .unread)
-      (rw (lt-ltb (s .unread .count) limit (k .room), every-append) (both (messages-fit s (f .mail)) (both new refl)))
+      (rw (appends (s .unread) m (k .room), every-append) (both (messages-fit s (f .mail)) (both new refl)))
     where
       m : Message
       m = sentMessage a b v s
@@ -362,7 +367,9 @@ module _ (s : State) (f : Facts s) where
 
   views-take : (b a : Rank) → Views (take b a s .state)
   unfolding take
-  views-take b a = views-with (removed (Between a b) (s .unread) .unread) (at (head (placeOrder (Between a b) (messages s))))
+  views-take b a =
+      views-with (removed (Between a b) (s .unread) .unread)
+      (rw (removes (Between a b) (s .unread)) (at (head (placeOrder (Between a b) (messages s)))))
     where
       at : (x : Found) → every (fits s) (leave (Between a b) (s .unread) x .unread .messages) ≡ true
       at Nothing = messages-fit s (f .mail)
@@ -385,7 +392,10 @@ module _ (s : State) (f : Facts s) where
       elsewhere false false false x h = refl
 
       at : (x : Found) → firstSent (onSourceChannel p r) (s .unread) ≡ x → Views (drainFound r p s x .state)
-      at (First m) e = views-with (relabelFirst (onSourceChannel p r) SourceList (s .unread)) (every-changeFirst (fits s) (λ m. between p r m && at-place SourceChannel m) (relabelled SourceList) drained (messages s) (messages-fit s (f .mail)))
+      at (First m) e =
+          views-with (relabelFirst (onSourceChannel p r) SourceList (s .unread))
+          (rw (relabels-first (onSourceChannel p r) (s .unread) SourceList)
+          (every-changeFirst (fits s) (λ m. between p r m && at-place SourceChannel m) (relabelled SourceList) drained (messages s) (messages-fit s (f .mail))))
       at Nothing e =
           let none = nothing-found (λ m. between p r m && at-place SourceChannel m) (messages s) e in
           let ready : isUnheeded (backlog s r p) ≡ false = rw none at (k .ready) in
