@@ -1,6 +1,8 @@
 -- The laws of the definitions, which the proofs of this crate cite.
 pub mod Logic
+pub mod Marks
 pub mod Messages
+pub mod Pairs
 pub mod Rising
 pub mod Sound
 pub mod Walk

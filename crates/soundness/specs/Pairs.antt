@@ -41,6 +41,10 @@ backlogFits t u await back =
 abbrev pub requestFits : Rank → Request → Status → Status → Connection → Bool
 requestFits b q t u there = not (asksFor b q) || isRunning t && isStarted u && isClosed there
 
+-- the first has no line, no await and no call to the second, and faces no notice of it
+abbrev pub holdsNothing : Rank → Request → Connection → Backlog → Connection → Bool
+holdsNothing b q there await back = isClosed there && isClear await && not (asksFor b q) && not (isClosing back)
+
 -- two ranks with their processes, where the first believes the second to be, and the link of each to the other
 abbrev pub pairSound : List ℕ → Rank → Rank → Process → Process → Vmid → Link → Link → Bool
 pairSound drawn a b p q v there back =

@@ -43,7 +43,8 @@ fn message_fits(m: Message, sender: Process, receiver: Process, back: Link) -> b
     from.is_started() & to.is_live() & place_fits(place, to, back)
 }
 
-// Every message, up to the first that fails or is at a lower place than the last of its pair.
+// Every message, up to the first that fails or is at a lower place than the last of its pair. A message at the place of that last one
+// is not tested again: whether it fits depends on its pair and its place alone.
 pub fn messages_sound(processes: [Process; 16], links: [Link; 256], t: Transit) -> bool
     ensures { λ r. ⌜ r ≡ messagesSound processes links (view t) ⌝ }
 {
@@ -51,6 +52,7 @@ pub fn messages_sound(processes: [Process; 16], links: [Link; 256], t: Transit) 
     if Transit::LIMIT < count {
         return false;
     }
+    // One more than the number of the place of each pair's last message, and 0 where it had none yet.
     let mut last = [0u8; 256];
     let mut i: usize = 0;
     while i < count {
@@ -60,19 +62,21 @@ pub fn messages_sound(processes: [Process; 16], links: [Link; 256], t: Transit) 
         }
         let from = m.sender.0 as usize;
         let to = m.receiver.0 as usize;
-        let sender = processes[from];
-        let receiver = processes[to];
-        let back = links[16 * to + from];
-        if !message_fits(m, sender, receiver, back) {
-            return false;
-        }
-        let place = m.place;
-        let number = place.number();
         let pair = 16 * from + to;
-        if number < last[pair] {
-            return false;
+        let place = m.place;
+        let mark = place.number() + 1;
+        if last[pair] != mark {
+            if mark < last[pair] {
+                return false;
+            }
+            let sender = processes[from];
+            let receiver = processes[to];
+            let back = links[16 * to + from];
+            if !message_fits(m, sender, receiver, back) {
+                return false;
+            }
+            last[pair] = mark;
         }
-        last[pair] = number;
         i += 1;
     }
     true

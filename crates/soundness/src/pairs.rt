@@ -1,6 +1,7 @@
 // The pairs of ranks, row after row: what each rank holds towards each.
 ghost use mathlib.Core.Path.{_≡_};
-ghost use Rattle.soundness.specs.Pairs.{locationFits, vmidsApart, connectionFits, backlogFits, requestFits, pairSound, pairsSound};
+ghost use Rattle.soundness.specs.Pairs.{locationFits, vmidsApart, connectionFits, backlogFits, requestFits};
+ghost use Rattle.soundness.specs.Pairs.{holdsNothing, pairSound, pairsSound};
 use crate::names::are_distinct;
 use crate::names::is_drawn;
 use crate::names::share_none;
@@ -59,6 +60,19 @@ fn request_fits(b: Rank, request: Request, one: Status, other: Status, there: Co
     !request.asks_for(b) | one.is_running() & other.is_started() & there.is_closed()
 }
 
+// A rank has no line, no await and no call to another, `b`, and faces no notice of it. That always fits, and most are so.
+fn holds_nothing(
+    b: Rank,
+    request: Request,
+    there: Connection,
+    backlog: Backlog,
+    back: Connection,
+) -> bool
+    ensures { λ r. ⌜ r ≡ holdsNothing b request there backlog back ⌝ }
+{
+    there.is_closed() & backlog.is_clear() & !request.asks_for(b) & !back.is_closing()
+}
+
 // Two ranks with their processes, where the first believes the second to be, and the link of each to the other.
 fn pair_sound(
     drawn: [u16; 8],
@@ -78,8 +92,11 @@ fn pair_sound(
     let connection = there.connection;
     let backlog = there.backlog;
     let facing = back.connection;
-    location_fits(drawn, location, other)
-        & vmids_apart(a, b, one, other)
+    let named = location_fits(drawn, location, other) & vmids_apart(a, b, one, other);
+    if holds_nothing(b, request, connection, backlog, facing) {
+        return named;
+    }
+    named
         & connection_fits(one, connection, facing)
         & backlog_fits(one, other, backlog, facing)
         & request_fits(b, request, one, other, connection)

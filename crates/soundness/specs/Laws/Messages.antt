@@ -1,22 +1,26 @@
--- Tests at every message; and messages with names in range: the cell of a message's pair, and the messages of a pair as those of its cell.
+-- Tests at every message; and messages with names in range: the cell of a message's pair, the messages of a pair as those of its cell,
+-- and that those at one place fit alike.
 -- Assumes nothing.
 use mathlib.Core.Path.{_≡_, refl}
 use mathlib.Core.Bool.{Bool, true, _&&_}
 use mathlib.Core.List.{List, [], _∷_}
 use Prim.Native.Nat.{_<_}
+use native.Mathlib.Omega.{arith}
 use borrow.Author.Tests.{ltb-true}
 use lib.Dec.{eqb}
 use Rattle.transit.specs.Laws.Lists.{every-both}
 use Rattle.transit.specs.Laws.Tests.{both, both-left, both-right}
 use Rattle.transit.specs.Lists.{select, every}
-use Rattle.transit.specs.Message.{between}
+use Rattle.transit.specs.Message.{between, number}
 use Rattle.transit.specs.declared.Message.{Message}
 use Rattle.transit.specs.declared.Rank.{Rank}
 use Rattle.broker.specs.Laws.Sound.{isNamed}
 use Rattle.broker.specs.Laws.State.{cell-below, cell-same}
 use Rattle.broker.specs.Ranks.{isRank}
 use Rattle.broker.specs.State.{cell}
-use Rattle.soundness.specs.Messages.{pairOf}
+use Rattle.broker.specs.declared.link.Link.{Link}
+use Rattle.broker.specs.declared.process.Process.{Process}
+use Rattle.soundness.specs.Messages.{messageSoundAt, pairOf}
 
 -- Tests that agree wherever a third passes select the same of a list where it passes everywhere.
 pub select-agree : {A : Type 0} (w p q : A → Bool) → ((x : A) → w x ≡ true → p x ≡ q x) → (l : List A) → every w l ≡ true → select p l ≡ select q l
@@ -49,3 +53,17 @@ pub pair-is-cell : (a b : Rank) → b .0 < 16 → (l : List Message) → every i
 pair-is-cell a b hb l named =
     select-agree isNamed (λ m. eqb (pairOf m) (cell a b)) (between a b)
     (λ m h. cell-same (m .sender) (m .receiver) a b (receiver-inside m h) hb) l named
+
+-- A message that passes has a cell for its pair.
+pub has-cell : (ps : List Process) (ls : List Link) (m : Message) → messageSoundAt ps ls m ≡ true → pairOf m < 256
+has-cell ps ls m h = pair-inside m (both-left (isNamed m) _ h)
+
+-- Messages of one pair at one place fit alike.
+pub fit-alike : (ps : List Process) (ls : List Link) (m n : Message) → messageSoundAt ps ls m ≡ true → isNamed n ≡ true
+    → pairOf m ≡ pairOf n → number m ≡ number n → messageSoundAt ps ls n ≡ true
+fit-alike ps ls m n fits named pair place =
+    let inside = receiver-inside m (both-left (isNamed m) _ fits) in
+    let inside' = receiver-inside n named in
+    let sender : n .sender .0 ≡ m .sender .0 = omega arith in
+    let receiver : n .receiver .0 ≡ m .receiver .0 = omega arith in
+    both named (rw (sender, receiver, ← place) (both-right (isNamed m) _ fits))

@@ -1,7 +1,7 @@
 -- The pass that keeps the last number of each cell: it goes through where each element fits and, within each cell, numbers never fall.
 -- Assumes nothing.
 use mathlib.Core.Path.{_≡_, refl, sym, _∙_}
-use mathlib.Core.Bool.{Bool, true, false, _&&_, and-false}
+use mathlib.Core.Bool.{Bool, true, false, and-false}
 use mathlib.Core.List.{List, [], _∷_, map}
 use Prim.Native.Nat.{ℕ, _<_, _≤_}
 use native.Mathlib.Omega.{arith}
@@ -55,11 +55,13 @@ module _ {A : Type 0} (fits : A → Bool) (cellOf numberOf : A → ℕ) where
 
   module _ (n : ℕ) (inside : (x : A) → fits x ≡ true → cellOf x < n) where
     -- An element's number is the last one of its cell once it is passed.
-    last-same : (last : List ℕ) (x : A) (k : ℕ) → length last ≡ n → fits x ≡ true → cellOf x ≡ k → getD (set last (cellOf x) (numberOf x)) k 0 ≡ numberOf x
+    pub last-same : (last : List ℕ) (x : A) (k : ℕ) → length last ≡ n → fits x ≡ true → cellOf x ≡ k
+        → getD (set last (cellOf x) (numberOf x)) k 0 ≡ numberOf x
     last-same last x k long fit same = rw (← same) (getD-set-same last (cellOf x) (numberOf x) 0 (rw long (inside x fit)))
 
     -- In every other cell the last number stays.
-    last-other : (last : List ℕ) (x : A) (k : ℕ) → (cellOf x ≡ k → ⊥) → getD (set last (cellOf x) (numberOf x)) k 0 ≡ getD last k 0
+    pub last-other : (last : List ℕ) (x : A) (k : ℕ) → (cellOf x ≡ k → ⊥)
+        → getD (set last (cellOf x) (numberOf x)) k 0 ≡ getD last k 0
     last-other last x k other = getD-set-other last (cellOf x) k (numberOf x) 0 (λ e. other (sym e))
 
     -- Where the pass goes through, the numbers of each cell never fall, from the last one before.

@@ -23,7 +23,7 @@ use Rattle.broker.specs.Ranks.{rank}
 use Rattle.broker.specs.Sound.{sound}
 use Rattle.broker.specs.State.{State, cell, status, request, location, connection, backlog, linkAt, drawnOn, messages}
 use Rattle.soundness.specs.Laws.Logic.{same-truth}
-use Rattle.soundness.specs.Laws.Messages.{every-and, pair-inside, pair-is-cell}
+use Rattle.soundness.specs.Laws.Messages.{every-and, has-cell, pair-is-cell}
 use Rattle.soundness.specs.Laws.Rising.{numbersIn, rises-fits, rises-sorted, rises-of}
 use Rattle.soundness.specs.Laws.Walk.{cell-of}
 use Rattle.soundness.specs.Messages.{messageSoundAt, pairOf, messagesSound}
@@ -82,10 +82,6 @@ module _ (s : State) where
   abbrev messageTest : Message → Bool
   messageTest m = messageSoundAt (s .processes) (s .links) m
 
-  -- A message that passes has a cell for its pair.
-  has-cell : (m : Message) → messageTest m ≡ true → pairOf m < 256
-  has-cell m h = pair-inside m (both-left (isNamed m) _ h)
-
   -- From soundness to the tests.
 
   ranks-pass : Facts s → byRanks s ≡ true
@@ -123,7 +119,7 @@ module _ (s : State) where
       let l = messages s in
       let places = every-and (fitsUnheeded s) (fitsPlace s) l (f .unheeded-places) (f .places-fit) in
       let all = every-and isNamed _ l (f .named) (every-and (hasEnds s) _ l (f .ends-fit) places) in
-      both (le-leb _ _ (f .few)) (rises-of messageTest pairOf number 256 has-cell l all (cells-rise f))
+      both (le-leb _ _ (f .few)) (rises-of messageTest pairOf number 256 (has-cell (s .processes) (s .links)) l all (cells-rise f))
 
   -- From the tests to soundness.
 
@@ -175,7 +171,7 @@ module _ (s : State) where
       let few = leb-true (s .unread .count) limit (both-left (leb (s .unread .count) limit) _ passes) in
       let pass = both-right (leb (s .unread .count) limit) _ passes in
       let all = rises-fits messageTest pairOf number (replicate 256 0) l pass in
-      let rising = rises-sorted messageTest pairOf number 256 has-cell l pass in
+      let rising = rises-sorted messageTest pairOf number 256 (has-cell (s .processes) (s .links)) l pass in
       let named = every-wider messageTest isNamed (λ m h. both-left (isNamed m) _ h) l all in
       record {
         few = few;

@@ -1,13 +1,15 @@
--- `soundness::messages::messages_sound` meets its contract. The loop's invariant: the pass from here goes through if the whole pass does.
--- Assumes nothing.
+-- `soundness::messages::messages_sound` meets its contract. The loop's invariant: the pass from here goes through if the whole pass does,
+-- and each message at the last place of its pair fits. Assumes nothing.
 use mathlib.Core.Path.{_≡_, sym, _∙_}
 use mathlib.Core.Bool.{Bool, true, false}
 use mathlib.Core.List.{List, _∷_}
-use Prim.Native.Nat.{_≤_, _+_, _-_, _<_}
+use mathlib.Core.Logic.{⊎-elim}
+use Prim.Native.Nat.{ℕ, _≤_, _+_, _-_, _<_}
 use native.Mathlib.Omega.{arith}
 use borrow.Author.Needs.{needs}
 use borrow.Author.Tests.{not-true, not-false, le-leb, lt-leb}
-use lib.ListN.{length, drop, replicate, getD, length-set, drop-of-length-le}
+use lib.ListN.{length, drop, replicate, getD, set, length-set, drop-of-length-le}
+use Rattle.transit.specs.Laws.Order.{place-below-four}
 use Rattle.transit.specs.Laws.Slots.{read-slot}
 use Rattle.transit.specs.Laws.Tests.{both}
 use Rattle.transit.specs.Message.{number}
@@ -15,7 +17,8 @@ use Rattle.transit.specs.Unread.{view}
 use Rattle.transit.specs.declared.Message.{Message}
 use Rattle.transit.specs.declared.Place.the-variants.{SourceList}
 use Rattle.broker.specs.Laws.Sound.{isNamed}
-use Rattle.soundness.specs.Laws.Messages.{sender-inside, receiver-inside, pair-inside}
+use Rattle.soundness.specs.Laws.Marks.{markOf, Tested, none-tested, passed-again, by-marks, tested-next}
+use Rattle.soundness.specs.Laws.Messages.{sender-inside, receiver-inside, pair-inside, has-cell, fit-alike}
 use Rattle.soundness.specs.Laws.Rising.{rises-unfit, rises-falls, rises-next}
 use Rattle.soundness.specs.Laws.Logic.{fails-left, fails-right}
 use Rattle.soundness.specs.Messages.{messageSoundAt, pairOf, rises, messagesSound}
@@ -27,7 +30,8 @@ abbrev Inv-loop : tie.InvT-loop
 Inv-loop processes links t count last₀ i₀ last i =
     (i ≤ count) ×
     (length last ≡ 256) ×
-    (rises (messageSoundAt processes links) pairOf number last (drop i (view t .messages)) ≡
+    Tested (messageSoundAt processes links) pairOf number isNamed last ×
+    (rises (messageSoundAt processes links) pairOf (markOf number) last (drop i (view t .messages)) ≡
     rises (messageSoundAt processes links) pairOf number (replicate 256 0) (view t .messages))
 
 abbrev μ-loop : tie.MeasureT-loop
@@ -54,12 +58,29 @@ test head = messageSoundAt (head .before .before .args .t1) (head .before .befor
 abbrev all-sound : tie.At-loop Inv-loop μ-loop → Bool
 all-sound head = messagesSound (head .before .before .args .t1) (head .before .before .args .t2) (view (head .before .before .args .t3))
 
--- the loop's head in the turn of a place after the names' test, and of a place after the message's
+-- what is known of the last marks before the messages after this turn's
+abbrev Kept : tie.At-loop Inv-loop μ-loop → List ℕ → Type 0
+Kept head last =
+    (length last ≡ 256) ×
+    Tested (test head) pairOf number isNamed last ×
+    (rises (test head) pairOf (markOf number) last (others head) ≡ rises (test head) pairOf number (replicate 256 0) (unread head))
+
+-- the loop's head in the turn of a place after the names' test, and of a place after the mark
 abbrev after-names : tie.Else2 Inv-loop μ-loop → tie.At-loop Inv-loop μ-loop
 after-names c = c .before .before .before .before
 
-abbrev after-test : tie.Else3 Inv-loop μ-loop → tie.At-loop Inv-loop μ-loop
-after-test c = after-names (c .before .before .before .before .before .before .before)
+abbrev names : tie.After-number Inv-loop μ-loop → tie.Else2 Inv-loop μ-loop
+names c = c .before .before .before
+
+abbrev after-mark : tie.After-number Inv-loop μ-loop → tie.At-loop Inv-loop μ-loop
+after-mark c = after-names (names c)
+
+-- the mark of a turn's message, and the last one of its pair
+abbrev mark : tie.At-loop Inv-loop μ-loop → ℕ
+mark head = markOf number (message head)
+
+abbrev last-mark : tie.At-loop Inv-loop μ-loop → ℕ
+last-mark head = getD (head .loop .last) (pairOf (message head)) 0
 
 -- as many messages are held as the count says
 held : (c : tie.Else1 Inv-loop μ-loop) → length (view (c .before .args .t3) .messages) ≡ c .before .args .t3 .count
@@ -67,9 +88,9 @@ held c = held-count (c .before .args .t3) _ (c .before .good .1 .1 .0) (c .if1 .
 
 -- what the pass from here comes to, the test of all messages does
 decides : (head : tie.At-loop Inv-loop μ-loop) (r : Bool)
-    → rises (test head) pairOf number (head .loop .last) (drop (head .loop .i) (unread head)) ≡ r → r ≡ all-sound head
+    → rises (test head) pairOf (markOf number) (head .loop .last) (drop (head .loop .i) (unread head)) ≡ r → r ≡ all-sound head
 unfolding messagesSound
-decides head r left = rw (le-leb _ _ (head .before .if1 .left)) (sym left ∙ head .loop .inv .2)
+decides head r left = rw (le-leb _ _ (head .before .if1 .left)) (sym left ∙ head .loop .inv .3)
 
 -- what is left in a turn is its message and those after it
 here : (head : tie.At-loop Inv-loop μ-loop) → head .loop .i < head .before .before .args .t3 .count
@@ -82,35 +103,60 @@ here head inside =
 fails-here : (c : tie.In-loop Inv-loop μ-loop) → test (c .before) (message (c .before)) ≡ false → false ≡ all-sound (c .before)
 fails-here c unfit =
     let head = c .before in
-    let fails = rises-unfit (test head) pairOf number (head .loop .last) (message head) (others head) unfit in
+    let fails = rises-unfit (test head) pairOf (markOf number) (head .loop .last) (message head) (others head) unfit in
     decides head false (rw (here head (c .loop-test .taken)) fails)
 
 named : (c : tie.Else2 Inv-loop μ-loop) → isNamed (message (after-names c)) ≡ true
 named c = sym (c .before .is-named .ensures) ∙ not-false _ (c .if2 .left)
 
-sender-below : (c : tie.Else2 Inv-loop μ-loop) → message (after-names c) .sender .0 < 16
-sender-below c = sender-inside (message (after-names c)) (named c)
+sender-below : (c : tie.After-number Inv-loop μ-loop) → message (after-mark c) .sender .0 < 16
+sender-below c = sender-inside (message (after-mark c)) (named (names c))
 
-receiver-below : (c : tie.Else2 Inv-loop μ-loop) → message (after-names c) .receiver .0 < 16
-receiver-below c = receiver-inside (message (after-names c)) (named c)
-
-fits : (c : tie.Else3 Inv-loop μ-loop) → test (after-test c) (message (after-test c)) ≡ true
-fits c =
-    let names = c .before .before .before .before .before .before .before in
-    both (named names) (sym (c .before .message-fits .ensures) ∙ not-false _ (c .if3 .left))
+receiver-below : (c : tie.After-number Inv-loop μ-loop) → message (after-mark c) .receiver .0 < 16
+receiver-below c = receiver-inside (message (after-mark c)) (named (names c))
 
 -- the pair of a message has a cell
-pair-below : (c : tie.After-number Inv-loop μ-loop) → pairOf (message (after-test (c .before))) < 256
-pair-below c =
-    let names = c .before .before .before .before .before .before .before .before in
-    pair-inside (message (after-names names)) (named names)
+pair-below : (c : tie.After-number Inv-loop μ-loop) → pairOf (message (after-mark c)) < 256
+pair-below c = pair-inside (message (after-mark c)) (named (names c))
+
+-- a message that has the last mark of its pair is passed
+passed-untested : (c : tie.After-number Inv-loop μ-loop) → last-mark (after-mark c) ≡ mark (after-mark c)
+    → Kept (after-mark c) (after-mark c .loop .last)
+passed-untested c same =
+    let head = after-mark c in
+    let inv = head .loop .inv in
+    let again = passed-again (test head) pairOf number isNamed (head .loop .last) in
+    let passed = again (message head) (others head) (inv .2) (named (names c)) same in
+    (inv .1, inv .2, sym passed ∙ rw (here head (omega arith)) at (inv .3))
+
+-- and so is one that fits and has no lower mark
+passed-tested : (c : tie.After-number Inv-loop μ-loop) → last-mark (after-mark c) ≤ mark (after-mark c)
+    → test (after-mark c) (message (after-mark c)) ≡ true
+    → Kept (after-mark c) (set (after-mark c .loop .last) (pairOf (message (after-mark c))) (mark (after-mark c)))
+passed-tested c above fits =
+    let head = after-mark c in
+    let inv = head .loop .inv in
+    let ps = head .before .before .args .t1 in
+    let ls = head .before .before .args .t2 in
+    let passed = rises-next (test head) pairOf (markOf number) (head .loop .last) (message head) (others head) fits above in
+    let next = tested-next (test head) pairOf number 256 (has-cell ps ls) isNamed (fit-alike ps ls) in
+    let tested = next (head .loop .last) (message head) (inv .1) (inv .2) fits in
+    (simp length-set (inv .1), tested, sym passed ∙ rw (here head (omega arith)) at (inv .3))
 
 returns : tie.Need-returns Inv-loop μ-loop
 unfolding messagesSound
 returns c = rw (lt-leb _ _ (c .if1 .taken))
 
 loop-holds : tie.Need-loop-holds Inv-loop μ-loop
-loop-holds c = search needs
+loop-holds c =
+    let args = c .before .args in
+    let ps = args .t1 in
+    let ls = args .t2 in (
+      omega arith,
+      search needs,
+      none-tested (messageSoundAt ps ls) pairOf number isNamed 256 pair-inside,
+      by-marks (messageSoundAt ps ls) pairOf number 256 (has-cell ps ls) (view (args .t3) .messages),
+    )
 
 mul-m : tie.Need-mul-m Inv-loop μ-loop
 mul-m c = search needs
@@ -131,6 +177,31 @@ cast-from c = search needs
 
 cast-to : tie.Need-cast-to Inv-loop μ-loop
 cast-to c = search needs
+
+mul-pair : tie.Need-mul-pair Inv-loop μ-loop
+mul-pair c = search needs
+
+add-pair : tie.Need-add-pair Inv-loop μ-loop
+add-pair c = search needs
+
+number-requires : tie.Need-number-requires Inv-loop μ-loop
+number-requires c κs = search needs
+
+add-mark : tie.Need-add-mark Inv-loop μ-loop
+add-mark c = omega (arith, c .number .ensures, place-below-four (message (after-mark c) .place))
+
+array-read-if3 : tie.Need-array-read-if3 Inv-loop μ-loop
+array-read-if3 c = pair-below c
+
+array-read-if4 : tie.Need-array-read-if4 Inv-loop μ-loop
+array-read-if4 c = pair-below (c .before)
+
+returns-3 : tie.Need-returns-3 Inv-loop μ-loop
+returns-3 c =
+    let head = after-mark (c .before .before) in
+    let lower : mark head < last-mark head = rw (← c .before .before .number .ensures) (c .if4 .taken) in
+    let falls = rises-falls (test head) pairOf (markOf number) (head .loop .last) (message head) (others head) lower in
+    decides head false (rw (here head (omega arith)) falls)
 
 mul-sender : tie.Need-mul-sender Inv-loop μ-loop
 mul-sender c = search needs
@@ -155,39 +226,20 @@ mul-back-2 c = search needs
 
 array-copy-out-back : tie.Need-array-copy-out-back Inv-loop μ-loop
 array-copy-out-back c =
-    let names = c .before .before .before .before in
-    omega (arith, sender-below names, receiver-below names)
+    let marked = c .before .before .before .before in
+    omega (arith, sender-below marked, receiver-below marked)
 
 message-fits-requires : tie.Need-message-fits-requires Inv-loop μ-loop
 message-fits-requires c κs = search needs
 
-returns-3 : tie.Need-returns-3 Inv-loop μ-loop
-returns-3 c =
-    let turn = c .before .before .before .before .before .before .before .before .before .before in
-    let unfit = sym (c .before .message-fits .ensures) ∙ not-true _ (c .if3 .taken) in
-    fails-here turn (fails-right (isNamed (message (turn .before))) unfit)
-
-number-requires : tie.Need-number-requires Inv-loop μ-loop
-number-requires c κs = search needs
-
-mul-pair : tie.Need-mul-pair Inv-loop μ-loop
-mul-pair c = search needs
-
-add-pair : tie.Need-add-pair Inv-loop μ-loop
-add-pair c = search needs
-
-array-read-if4 : tie.Need-array-read-if4 Inv-loop μ-loop
-array-read-if4 c = pair-below c
-
 returns-4 : tie.Need-returns-4 Inv-loop μ-loop
 returns-4 c =
-    let head = after-test (c .before .before) in
-    let lower : number (message head) < getD (head .loop .last) (pairOf (message head)) 0 = rw (← c .before .number .ensures) (c .if4 .taken) in
-    let falls = rises-falls (test head) pairOf number (head .loop .last) (message head) (others head) lower in
-    decides head false (rw (here head (omega arith)) falls)
+    let marked = c .before .before .before .before .before .before .before in
+    let unfit = sym (c .before .message-fits .ensures) ∙ not-true _ (c .if5 .taken) in
+    fails-here (names marked .before .before .before) (fails-right (isNamed (message (after-mark marked))) unfit)
 
 array-write-last : tie.Need-array-write-last Inv-loop μ-loop
-array-write-last c = pair-below (c .before)
+array-write-last c = pair-below (c .before .before .before .before .before .before .before)
 
 add-i : tie.Need-add-i Inv-loop μ-loop
 add-i c = search needs
@@ -197,11 +249,17 @@ loop-less c = search needs
 
 loop-again : tie.Need-loop-again Inv-loop μ-loop
 loop-again c =
-    let head = after-test (c .before .before) in
-    let above : getD (head .loop .last) (pairOf (message head)) 0 ≤ number (message head) = rw (← c .before .number .ensures) (c .if4 .left) in
-    let passed = rises-next (test head) pairOf number (head .loop .last) (message head) (others head) (fits (c .before .before)) above in
-    let left = rw (here head (omega arith)) at (head .loop .inv .2) in
-    (omega arith, simp length-set (head .loop .inv .1), rw (c .before .number .ensures) (sym passed ∙ left))
+    let marked = c .before in
+    ⊎-elim
+    (λ w.
+    let above : last-mark (after-mark marked) ≤ mark (after-mark marked) = rw (← marked .number .ensures) (w .1 .left) in
+    let fits = both (named (names marked)) (sym (w .5 .ensures) ∙ not-false _ (w .6 .left)) in
+    let kept = passed-tested marked above fits in
+    rw (w .7, marked .number .ensures) (omega arith, kept .0, kept .1, kept .2))
+    (λ w.
+    let kept = passed-untested marked (rw (← marked .number .ensures) (w .0 .left)) in
+    rw (w .1) (omega arith, kept .0, kept .1, kept .2))
+    (c .if3 .came)
 
 returns-5 : tie.Need-returns-5 Inv-loop μ-loop
 returns-5 c =
@@ -223,6 +281,13 @@ messages-sound-spec =
     returns-2
     cast-from
     cast-to
+    mul-pair
+    add-pair
+    number-requires
+    add-mark
+    array-read-if3
+    array-read-if4
+    returns-3
     mul-sender
     array-copy-out-sender
     mul-receiver
@@ -232,11 +297,6 @@ messages-sound-spec =
     mul-back-2
     array-copy-out-back
     message-fits-requires
-    returns-3
-    number-requires
-    mul-pair
-    add-pair
-    array-read-if4
     returns-4
     array-write-last
     add-i
