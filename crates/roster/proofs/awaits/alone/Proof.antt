@@ -1,0 +1,79 @@
+-- `roster::awaits::alone` meets its contract. The loop's invariant: the ranks so far have no line. Assumes nothing.
+use mathlib.Core.Bool.{Bool, true, false}
+use mathlib.Core.Path.{_≡_, sym}
+use Prim.Native.Nat.{ℕ, _≤_, _-_}
+use native.Mathlib.Omega.{arith}
+use borrow.Author.Needs.{needs}
+use borrow.Author.Tests.{not-true, not-false}
+use Rattle.transit.specs.declared.Rank.{Rank}
+use Rattle.broker.specs.Names.{isClosed}
+use Rattle.broker.specs.Ranks.{rank, allBelow, everyRank}
+use Rattle.broker.specs.State.{linkAt}
+use Rattle.roster.specs.Laws.Counts.{all-passed, one-rank-failed}
+use Rattle.roster.specs.Roster.{ranksOf}
+use Rattle.roster.proofs.awaits.alone.Statement.{statement}
+use Rattle.roster.proofs.awaits.alone.Tie as tie
+
+abbrev Inv-loop : tie.InvT-loop
+Inv-loop r roster i₀ i =
+    (i ≤ 16) × (allBelow i (λ k. isClosed (linkAt (ranksOf roster .links) r (rank k) .connection)) ≡ true)
+
+abbrev μ-loop : tie.MeasureT-loop
+μ-loop r roster i₀ i = 16 - i
+
+loop-holds : tie.Need-loop-holds Inv-loop μ-loop
+loop-holds c = search needs
+
+link-between-requires : tie.Need-link-between-requires Inv-loop μ-loop
+link-between-requires c κs = c .before .before .pre
+
+is-closed-requires : tie.Need-is-closed-requires Inv-loop μ-loop
+is-closed-requires c κs = search needs
+
+returns : tie.Need-returns Inv-loop μ-loop
+returns c =
+    let closed = c .before .is-closed .ensures in
+    let link = c .before .before .link-between .ensures in
+    let head = c .before .before .before .before in
+    let args = head .before .args in
+    let closedTo : Rank → Bool = λ p. isClosed (linkAt (ranksOf (args .roster .now) .links) (args .r) p .connection) in
+    let test : closedTo (rank (head .loop .i)) ≡ false = rw (← link, ← closed) (not-true _ (c .if1 .taken)) in
+    sym (one-rank-failed closedTo (rank (head .loop .i)) (omega arith) test)
+
+add-i : tie.Need-add-i Inv-loop μ-loop
+add-i c = search needs
+
+loop-less : tie.Need-loop-less Inv-loop μ-loop
+loop-less c = search needs
+
+loop-again : tie.Need-loop-again Inv-loop μ-loop
+loop-again c =
+    let closed = c .before .is-closed .ensures in
+    let link = c .before .before .link-between .ensures in
+    let head = c .before .before .before .before in
+    let args = head .before .args in
+    let closedTo : ℕ → Bool = λ k. isClosed (linkAt (ranksOf (args .roster .now) .links) (args .r) (rank k) .connection) in
+    let test : closedTo (head .loop .i) ≡ true = rw (← link, ← closed) (not-false _ (c .if1 .left)) in
+    (omega arith, all-passed closedTo (head .loop .i) test (head .loop .inv .1))
+
+returns-2 : tie.Need-returns-2 Inv-loop μ-loop
+unfolding everyRank
+returns-2 c =
+    let head = c .before in
+    let last : head .loop .i ≡ 16 = omega arith in
+    sym (rw last at (head .loop .inv .1))
+
+pub alone-spec : {M : Type 1} → statement M
+alone-spec =
+    tie.close
+    (tie.spec
+    Inv-loop
+    μ-loop
+    loop-holds
+    link-between-requires
+    is-closed-requires
+    returns
+    add-i
+    loop-less
+    loop-again
+    returns-2)

@@ -1,0 +1,116 @@
+-- `roster::load::locations_in` meets its contract. The loops' invariants: so many entries are copied. Assumes nothing.
+use mathlib.Core.Path.{_≡_, refl, _∙_}
+use Prim.Native.Nat.{_+_, _*_, _≤_, _-_}
+use native.Mathlib.Omega.{arith}
+use borrow.Author.Needs.{needs}
+use lib.ListN.{length, length-set}
+use Rattle.broker.specs.Names.{unknown}
+use Rattle.roster.specs.Laws.Loaded.{copied-next}
+use Rattle.roster.specs.Laws.Unloaded.{row-entry, locations-copied}
+use Rattle.roster.specs.Loaded.{Copied}
+use Rattle.roster.specs.Roster.{locationIn}
+use Rattle.roster.proofs.load.locations_in.Statement.{statement}
+use Rattle.roster.proofs.load.locations_in.Tie as tie
+
+abbrev Inv-loop2 : tie.InvT-loop2
+Inv-loop2 roster locations₀ a row start i₀ locations i =
+    (i ≤ 16) × (length locations ≡ 256) × Copied (locationIn roster) unknown (16 * a + i) locations
+
+abbrev μ-loop2 : tie.MeasureT-loop2
+μ-loop2 roster locations₀ a row start i₀ locations i = 16 - i
+
+abbrev Inv-loop : tie.InvT-loop
+Inv-loop roster locations₀ a₀ locations a = (a ≤ 16) × (length locations ≡ 256) × Copied (locationIn roster) unknown (16 * a) locations
+
+abbrev μ-loop : tie.MeasureT-loop
+μ-loop roster locations₀ a₀ locations a = 16 - a
+
+unknown-requires : tie.Need-unknown-requires Inv-loop2 μ-loop2 Inv-loop μ-loop
+unknown-requires c κs = search needs
+
+loop-holds : tie.Need-loop-holds Inv-loop2 μ-loop2 Inv-loop μ-loop
+loop-holds c = (omega arith, refl, λ k b. absurd (omega arith))
+
+row-in-requires : tie.Need-row-in-requires Inv-loop2 μ-loop2 Inv-loop μ-loop
+row-in-requires c κs = search needs
+
+mul-start : tie.Need-mul-start Inv-loop2 μ-loop2 Inv-loop μ-loop
+mul-start c = search needs
+
+loop2-holds : tie.Need-loop2-holds Inv-loop2 μ-loop2 Inv-loop μ-loop
+loop2-holds c = let head = c .before .before in (omega arith, head .loop .inv .1, λ k b. head .loop .inv .2 k (omega arith))
+
+mul-v : tie.Need-mul-v Inv-loop2 μ-loop2 Inv-loop μ-loop
+mul-v c = search needs
+
+array-copy-out-v : tie.Need-array-copy-out-v Inv-loop2 μ-loop2 Inv-loop μ-loop
+array-copy-out-v c = search needs
+
+add-locations : tie.Need-add-locations Inv-loop2 μ-loop2 Inv-loop μ-loop
+add-locations c = search needs
+
+mul-locations : tie.Need-mul-locations Inv-loop2 μ-loop2 Inv-loop μ-loop
+mul-locations c = search needs
+
+array-set-from-locations : tie.Need-array-set-from-locations Inv-loop2 μ-loop2 Inv-loop μ-loop
+array-set-from-locations c = search needs
+
+add-i : tie.Need-add-i Inv-loop2 μ-loop2 Inv-loop μ-loop
+add-i c = search needs
+
+loop2-less : tie.Need-loop2-less Inv-loop2 μ-loop2 Inv-loop μ-loop
+loop2-less c = search needs
+
+loop2-again : tie.Need-loop2-again Inv-loop2 μ-loop2 Inv-loop μ-loop
+loop2-again c =
+    let inner = c .before .before in
+    let row = inner .before .row-in .ensures in
+    let head = inner .before .before .before in
+    let roster = head .before .before .args .roster .now in
+    let i = inner .loop2 .i in
+    let at = 16 * head .loop .a + i in
+    let locations = inner .loop2 .locations in
+    let here = rw (← row) at (row-entry roster (head .loop .a) (omega arith) i (omega arith)) in
+    let next = copied-next (locationIn roster) unknown at locations _ (omega arith) here (inner .loop2 .inv .2) in
+    (omega arith, length-set locations at _ ∙ inner .loop2 .inv .1, λ k b. next k (omega arith))
+
+add-a : tie.Need-add-a Inv-loop2 μ-loop2 Inv-loop μ-loop
+add-a c = search needs
+
+loop-less : tie.Need-loop-less Inv-loop2 μ-loop2 Inv-loop μ-loop
+loop-less c = search needs
+
+loop-again : tie.Need-loop-again Inv-loop2 μ-loop2 Inv-loop μ-loop
+loop-again c = let inner = c .before in (omega arith, inner .loop2 .inv .1, λ k b. inner .loop2 .inv .2 k (omega arith))
+
+returns : tie.Need-returns Inv-loop2 μ-loop2 Inv-loop μ-loop
+returns c =
+    let head = c .before in
+    locations-copied (head .before .before .args .roster .now) (head .loop .locations) (head .loop .inv .1)
+    (λ k b. head .loop .inv .2 k (omega arith))
+
+pub locations-in-spec : {M : Type 1} → statement M
+locations-in-spec =
+    tie.close
+    (tie.spec
+    Inv-loop2
+    μ-loop2
+    Inv-loop
+    μ-loop
+    unknown-requires
+    loop-holds
+    row-in-requires
+    mul-start
+    loop2-holds
+    mul-v
+    array-copy-out-v
+    add-locations
+    mul-locations
+    array-set-from-locations
+    add-i
+    loop2-less
+    loop2-again
+    add-a
+    loop-less
+    loop-again
+    returns)

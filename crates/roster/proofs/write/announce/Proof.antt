@@ -1,0 +1,52 @@
+-- `roster::write::announce` meets its contract. The loop's invariant: the ranks so far are told. Assumes nothing.
+use mathlib.Core.Path.{_≡_, refl}
+use Prim.Native.Nat.{_≤_, _-_}
+use native.Mathlib.Numerals.{add-one}
+use native.Mathlib.Omega.{arith}
+use borrow.Author.Needs.{needs}
+use lib.ListN.{set}
+use Rattle.broker.specs.Life.{announced}
+use Rattle.broker.specs.Ranks.{rank, eachBelow, eachRank}
+use Rattle.broker.specs.State.{cell, withLocations}
+use Rattle.roster.specs.Roster.{ranksOf, Holds}
+use Rattle.roster.proofs.write.announce.Statement.{statement}
+use Rattle.roster.proofs.write.announce.Tie as tie
+
+abbrev Inv-loop : tie.InvT-loop
+Inv-loop r vmid roster₀ i₀ roster i =
+    (i ≤ 16) ×
+    Holds roster
+    (withLocations (eachBelow i (λ p l. set l (cell (rank p) r) vmid) (ranksOf roster₀ .locations)) (ranksOf roster₀))
+
+abbrev μ-loop : tie.MeasureT-loop
+μ-loop r vmid roster₀ i₀ roster i = 16 - i
+
+loop-holds : tie.Need-loop-holds Inv-loop μ-loop
+loop-holds c = (omega arith, record { long = c .pre; same = refl })
+
+set-location-requires : tie.Need-set-location-requires Inv-loop μ-loop
+set-location-requires c κs = search needs
+
+add-i : tie.Need-add-i Inv-loop μ-loop
+add-i c = search needs
+
+loop-less : tie.Need-loop-less Inv-loop μ-loop
+loop-less c = search needs
+
+loop-again : tie.Need-loop-again Inv-loop μ-loop
+loop-again c =
+    let head = c .before .before .before in
+    let told = head .loop .inv .1 .same in
+    let next = c .set-location .ensures in
+    (omega arith, record { long = next .long; same = rw add-one (rw told at (next .same)) })
+
+returns : tie.Need-returns Inv-loop μ-loop
+unfolding announced eachRank
+returns c =
+    let done : c .before .loop .i ≡ 16 = omega arith in
+    rw done at (c .before .loop .inv .1)
+
+pub announce-spec : {M : Type 1} → statement M
+announce-spec =
+    tie.close
+    (tie.spec Inv-loop μ-loop loop-holds set-location-requires add-i loop-less loop-again returns)

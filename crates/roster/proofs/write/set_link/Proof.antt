@@ -1,0 +1,47 @@
+-- `roster::write::set_link` meets its contract. Assumes nothing.
+use borrow.Author.Needs.{needs}
+use Rattle.roster.specs.Laws.Stores.{link-stored, link-past-end}
+use Rattle.roster.proofs.write.set_link.Statement.{statement}
+use Rattle.roster.proofs.write.set_link.Tie as tie
+
+cell-requires : tie.Need-cell-requires
+cell-requires c κs = search needs
+
+encode-link-requires : tie.Need-encode-link-requires
+encode-link-requires c κs = search needs
+
+add-roster : tie.Need-add-roster
+add-roster c = search needs
+
+mul-roster : tie.Need-mul-roster
+mul-roster c = search needs
+
+element-write-roster : tie.Need-element-write-roster
+element-write-roster c = search needs
+
+returns : tie.Need-returns
+returns c =
+    let test = c .before in
+    let cell = test .before .cell in
+    let start = test .before .before in
+    rw (← cell .ensures, ← c .encode-link .ensures)
+    (link-stored (start .args .roster .now) (start .pre) (cell .result) (c .encode-link .result) (test .if1 .taken))
+
+returns-2 : tie.Need-returns-2
+returns-2 c =
+    let cell = c .before .cell in
+    let start = c .before .before in
+    let args = start .args in
+    rw (← cell .ensures) (link-past-end (args .roster .now) (start .pre) (cell .result) (args .link) (c .if1 .left))
+
+pub set-link-spec : {M : Type 1} → statement M
+set-link-spec =
+    tie.close
+    (tie.spec
+    cell-requires
+    encode-link-requires
+    add-roster
+    mul-roster
+    element-write-roster
+    returns
+    returns-2)

@@ -1,0 +1,35 @@
+-- `roster::write::set_standing` meets its contract. Assumes nothing.
+use borrow.Author.Needs.{needs}
+use Rattle.roster.specs.Laws.Stores.{standing-stored, process-past-end}
+use Rattle.roster.proofs.write.set_standing.Statement.{statement}
+use Rattle.roster.proofs.write.set_standing.Tie as tie
+
+cast-i : tie.Need-cast-i
+cast-i c = search needs
+
+encode-standing-requires : tie.Need-encode-standing-requires
+encode-standing-requires c κs = search needs
+
+mul-roster : tie.Need-mul-roster
+mul-roster c = search needs
+
+element-write-roster : tie.Need-element-write-roster
+element-write-roster c = search needs
+
+returns : tie.Need-returns
+returns c =
+    let test = c .before in
+    let start = test .before .before in
+    let args = start .args in
+    rw (c .encode-standing .ensures) at
+    (standing-stored (args .roster .now) (start .pre) (args .r) (c .encode-standing .result) (test .if1 .taken))
+
+returns-2 : tie.Need-returns-2
+returns-2 c =
+    let start = c .before .before in
+    process-past-end (start .args .roster .now) (start .pre) (start .args .r) _ (c .if1 .left)
+
+pub set-standing-spec : {M : Type 1} → statement M
+set-standing-spec =
+    tie.close
+    (tie.spec cast-i encode-standing-requires mul-roster element-write-roster returns returns-2)

@@ -1,0 +1,53 @@
+-- The state that a roster holds: five columns, one behind the other, of standings (16), calls (16), table entries (256), links (256)
+-- and numbers drawn (8). Paper 01, "Names and places". Assumes nothing.
+use mathlib.Core.Path.{_≡_}
+use mathlib.Core.List.{List, [], _∷_}
+use Prim.Native.Nat.{ℕ, zero, suc, _+_}
+use lib.ListN.{length, getD}
+use Rattle.transit.specs.Unread.{nothing}
+use Rattle.broker.specs.State.{State}
+use Rattle.broker.specs.declared.link.Link.{Link}
+use Rattle.broker.specs.declared.process.Process.{Process}
+use Rattle.broker.specs.declared.process.Vmid.{Vmid}
+use Rattle.roster.specs.Numbers.{vmidOf, statusOf, requestOf, linkOf, drawnOf}
+
+-- f 0, f 1, .. up to f (n - 1)
+unfoldable pub tabulate : {A : Type 0} → ℕ → (ℕ → A) → List A
+tabulate zero f = []
+tabulate (suc n) f = f 0 ∷ tabulate n (λ k. f (suc k))
+
+-- a rank's process: its standing and its call
+abbrev pub processIn : List ℕ → ℕ → Process
+processIn l k = record { status = statusOf (getD l k 0); request = requestOf (getD l (16 + k) 0) }
+
+-- a table entry, by its cell
+abbrev pub locationIn : List ℕ → ℕ → Vmid
+locationIn l k = vmidOf (getD l (32 + k) 0)
+
+-- a link, by its cell
+abbrev pub linkIn : List ℕ → ℕ → Link
+linkIn l k = linkOf (getD l (288 + k) 0)
+
+-- how many numbers are drawn on a host
+abbrev pub drawnIn : List ℕ → ℕ → ℕ
+drawnIn l k = drawnOf (getD l (544 + k) 0)
+
+-- the state that a roster holds, without messages
+unfoldable pub ranksOf : List ℕ → State
+ranksOf l =
+    record {
+      processes = tabulate 16 (processIn l);
+      locations = tabulate 256 (locationIn l);
+      links = tabulate 256 (linkIn l);
+      drawn = tabulate 8 (drawnIn l);
+      unread = nothing;
+    }
+
+-- all five columns are there
+abbrev pub Whole : List ℕ → Type 0
+Whole roster = length roster ≡ 552
+
+-- the roster is whole, and holds the state
+pub record Holds (roster : List ℕ) (s : State) : Type 0 where
+  pub long : Whole roster
+  pub same : ranksOf roster ≡ s
