@@ -1,8 +1,7 @@
--- What the contracts of this crate cite, and laws of it.
-pub mod Awaits
+-- What the contracts of this crate and of the kinds cite, and laws of it.
+pub mod Desk
 pub mod Laws
-pub mod Parts
-pub mod Settled
+pub mod Look
 pub mod Tests
 pub mod Unread
 pub mod Verdict

@@ -2,9 +2,9 @@
 ghost use mathlib.Core.Path.{_≡_};
 ghost use Rattle.checks.specs.Tests.{oneTests, twoTests, runningTests};
 ghost use Rattle.checks.specs.Verdict.{verdictOf, orElse, passed, judged};
-use crate::read::both;
-use crate::read::is_rank;
-use crate::read::same_rank;
+use crate::names::both;
+use crate::names::is_rank;
+use crate::names::same_rank;
 use broker::answer::Refusal;
 use broker::process::Status;
 use transit::Rank;

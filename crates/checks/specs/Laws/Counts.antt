@@ -23,7 +23,10 @@ module _ (f : ℕ → Bool) where
   all-pass zero = refl
   all-pass (suc n) = at (f n) (all-pass n)
     where
-      at : (b : Bool) → allBelow n f ≡ eqb (countBelow n (λ k. not (f k))) 0 → (allBelow n f && b) ≡ eqb (cond (not b) (suc (countBelow n (λ k. not (f k)))) (countBelow n (λ k. not (f k)))) 0
+      at :
+          (b : Bool) → allBelow n f ≡ eqb (countBelow n (λ k. not (f k))) 0 →
+          (allBelow n f && b) ≡
+          eqb (cond (not b) (suc (countBelow n (λ k. not (f k)))) (countBelow n (λ k. not (f k)))) 0
       at true h = rw and-true h
       at false h = rw (and-false, ne-eqb (suc (countBelow n (λ k. not (f k)))) 0 (λ e. omega arith))
 

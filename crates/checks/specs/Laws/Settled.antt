@@ -1,38 +1,35 @@
--- A settlement by what the checks give, and by a verdict that gives the same. Assumes nothing.
+-- What a record comes to, by a verdict that gives the refusal of the definition. Assumes nothing.
 use mathlib.Core.Option.{none, some}
 use mathlib.Core.Path.{_≡_, sym, ap, _∙_}
 use Rattle.transit.specs.declared.Rank.{Rank}
 use Rattle.broker.specs.Checks.{refusal}
-use Rattle.broker.specs.Laws.Checks.{Passes, passes}
+use Rattle.broker.specs.Life.{Done}
 use Rattle.broker.specs.State.{State}
-use Rattle.broker.specs.Step.{settle, apply}
+use Rattle.broker.specs.Step.{Settlement, settle, apply}
+use Rattle.broker.specs.declared.answer.Answer.the-variants.{Accepted, Refused}
 use Rattle.broker.specs.declared.answer.Refusal.{Refusal}
+use Rattle.broker.specs.declared.answer.Values.{Values}
 use Rattle.broker.specs.declared.record.Record.{Record}
-use Rattle.checks.specs.Settled.{accepted, refused}
+use Rattle.checks.specs.Desk.{Judges, Does}
 use Rattle.checks.specs.Verdict.{verdictOf}
 use Rattle.checks.specs.declared.verdict.Verdict.{Verdict}
-use Rattle.checks.specs.declared.verdict.Verdict.the-variants.{Passed, Refused}
+use Rattle.checks.specs.declared.verdict.Verdict.the-variants.{Passed, Refused as Refusing}
 
-module _ (named : Rank) (r : Record) (s : State) where
-  -- where a check applies, it is its refusal
-  pub settle-refused : (n : Refusal) → refusal s r ≡ some n → refused n s ≡ settle named r s
+module _ (r : Record) (s : State) (v : Verdict) (judged : Judges r s v) (named : Rank) where
+  -- a verdict that refuses: the state is as it was
+  pub settle-refused : (n : Refusal) → v ≡ Refusing n → _≡_ {A = Settlement} (record { answer = Refused n; state = s }) (settle named r s)
   unfolding settle
-  settle-refused n h = rw h
+  settle-refused n e = let h : refusal s r ≡ some n = sym judged ∙ ap verdictOf e in rw h
 
-  -- where none does, it is what the record does
-  pub settle-accepted : refusal s r ≡ none → accepted (apply named r s) ≡ settle named r s
+  -- a verdict that passes: what the record does
+  pub settle-accepted :
+      (w : Values) (s' : State) → v ≡ Passed → Does (apply named r) s w s' →
+      _≡_ {A = Settlement} (record { answer = Accepted (w .0) (w .1) (w .2); state = s' }) (settle named r s)
   unfolding settle
-  settle-accepted h = rw h
+  settle-accepted w s' e does =
+      let h : refusal s r ≡ none = sym judged ∙ ap verdictOf e in
+      rw h (ap (λ (d : Done). record { answer = Accepted (d .v1) (d .v2) (d .v3); state = d .state }) does)
 
-module _ (r : Record) (s : State) (v : Verdict) (same : verdictOf v ≡ refusal s r) where
-  -- a verdict that refuses settles it so
-  pub refused-by : (named : Rank) (n : Refusal) → v ≡ Refused n → refused n s ≡ settle named r s
-  refused-by named n e = settle-refused named r s n (sym same ∙ ap verdictOf e)
-
-  -- so does one that passes
-  pub accepted-by : (named : Rank) → v ≡ Passed → accepted (apply named r s) ≡ settle named r s
-  accepted-by named e = settle-accepted named r s (sym same ∙ ap verdictOf e)
-
-  -- and then every row of the table is false
-  pub passes-by : v ≡ Passed → Passes s r
-  passes-by e = passes s r (sym same ∙ ap verdictOf e)
+-- no check applies where the verdict passes
+pub nothing-applies : (r : Record) (s : State) (v : Verdict) → Judges r s v → v ≡ Passed → refusal s r ≡ none
+nothing-applies r s v judged e = sym judged ∙ ap verdictOf e

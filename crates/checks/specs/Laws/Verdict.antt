@@ -20,6 +20,8 @@ pub judged-first : (ts : List Test) → judged passed ts ≡ firstFailing ts
 judged-first [] = refl
 judged-first (t ∷ ts) = at (t .fails) (judged-first ts)
   where
-    at : (b : Bool) → judged passed ts ≡ firstFailing ts → judged (orElse none b (t .refusal)) ts ≡ cond b (some (t .refusal)) (firstFailing ts)
+    at :
+        (b : Bool) → judged passed ts ≡ firstFailing ts →
+        judged (orElse none b (t .refusal)) ts ≡ cond b (some (t .refusal)) (firstFailing ts)
     at true h = refused-stays (t .refusal) ts
     at false h = h
