@@ -1,3 +1,5 @@
 -- Laws of the definitions that the contracts cite.
 pub mod Judged
-pub mod Parts
+pub mod Parted
+pub mod Routed
+pub mod Withdrawn

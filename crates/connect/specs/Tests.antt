@@ -5,25 +5,26 @@ use mathlib.Core.List.{List, [], _∷_, _++_}
 use Rattle.transit.specs.declared.Rank.{Rank}
 use Rattle.broker.specs.Names.{isOpenRequest, asksFor, isClosed, isClosing}
 use Rattle.broker.specs.declared.answer.Refusal.the-variants.{Connected, RequestOpen, NoRequest, NotConnected, PeerMigrating}
-use Rattle.broker.specs.declared.link.Link.{Link}
-use Rattle.broker.specs.declared.process.Process.{Process}
+use Rattle.broker.specs.declared.link.Connection.{Connection}
+use Rattle.broker.specs.declared.process.Request.{Request}
+use Rattle.broker.specs.declared.process.Status.{Status}
 use Rattle.checks.specs.Tests.{twoTests, runningTests}
 use Rattle.checks.specs.Verdict.{Test, test}
 
--- call: of the two ranks' processes, and of the first one's link to the second
-abbrev pub callTests : Rank → Rank → Process → Process → Link → List Test
-callTests a b p q l =
-    twoTests a b (p .status) (q .status) ++
-    runningTests (p .status) ++
-    (test (not (isClosed (l .connection))) Connected ∷ test (isOpenRequest (p .request)) RequestOpen ∷ [])
+-- call: of the two ranks' standings, of the first one's call, and of its line to the second
+abbrev pub callTests : Rank → Rank → Status → Status → Request → Connection → List Test
+callTests a b t u q l =
+    twoTests a b t u ++
+    runningTests t ++
+    (test (not (isClosed l)) Connected ∷ test (isOpenRequest q) RequestOpen ∷ [])
 
--- route: of the two ranks' processes
-abbrev pub routeTests : Rank → Rank → Process → Process → List Test
-routeTests a b p q = twoTests a b (p .status) (q .status) ++ (test (not (asksFor b (p .request))) NoRequest ∷ [])
+-- route: of the two ranks' standings, and of the first one's call
+abbrev pub routeTests : Rank → Rank → Status → Status → Request → List Test
+routeTests a b t u q = twoTests a b t u ++ (test (not (asksFor b q)) NoRequest ∷ [])
 
--- part: of the two ranks' processes, and of the first one's link to the second
-abbrev pub partTests : Rank → Rank → Process → Process → Link → List Test
-partTests a b p q l =
-    twoTests a b (p .status) (q .status) ++
-    runningTests (p .status) ++
-    (test (isClosed (l .connection)) NotConnected ∷ test (isClosing (l .connection)) PeerMigrating ∷ [])
+-- part: of the two ranks' standings, and of the first one's line to the second
+abbrev pub partTests : Rank → Rank → Status → Status → Connection → List Test
+partTests a b t u l =
+    twoTests a b t u ++
+    runningTests t ++
+    (test (isClosed l) NotConnected ∷ test (isClosing l) PeerMigrating ∷ [])

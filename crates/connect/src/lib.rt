@@ -1,270 +1,183 @@
-// Call, route and part: the checks of each in the paper's order, and, where none applies, its change of the state.
+// Call, route and part: the checks of each in the paper's order, and what each does where none applies.
 // Paper 01, "The step log", kinds 02, 03 and 0A.
+ghost use mathlib.Core.Bool.{false};
+ghost use mathlib.Core.List.{List};
 ghost use mathlib.Core.Path.{_≡_};
-ghost use Prim.Native.Nat.{_<_};
-ghost use Rattle.broker.specs.Connect.{connect, call, routeThere, routeOn, route, part};
-ghost use Rattle.broker.specs.Life.{done};
-ghost use Rattle.broker.specs.Ranks.{rank};
-ghost use Rattle.broker.specs.State.{view, withRequest};
-ghost use Rattle.broker.specs.Step.{settle};
-ghost use Rattle.broker.specs.declared.process.Request.{Request};
+ghost use Prim.Native.Nat.{ℕ, _<_};
+ghost use Rattle.transit.specs.Mail.{Mail};
+ghost use Rattle.transit.specs.Message.{sameRank};
+ghost use Rattle.transit.specs.Unread.{Unread};
+ghost use Rattle.broker.specs.Connect.{call, connectBoth, withdraw, routeThere, routeOn, route, part};
+ghost use Rattle.broker.specs.State.{withUnread};
 ghost use Rattle.broker.specs.declared.record.Record.{Record};
-ghost use Rattle.checks.specs.Settled.{settled, accepted};
+ghost use Rattle.roster.specs.Roster.{ranksOf, Holds, Whole};
+ghost use Rattle.checks.specs.Desk.{RosterDoes, DeskDoes, Judges};
 ghost use Rattle.checks.specs.Verdict.{verdictOf, passed, judged};
-ghost use Rattle.connect.specs.Parts.{tableOf, withdrawn};
 ghost use Rattle.connect.specs.Tests.{callTests, routeTests, partTests};
-use broker::answer::Answer;
 use broker::answer::Refusal;
+use broker::answer::Values;
 use broker::link::Connection;
-use broker::link::Link;
-use broker::process::Process;
 use broker::process::Request;
+use broker::process::Status;
 use broker::process::Vmid;
-use broker::state::Broker;
-use checks::Settled;
-use checks::read::cell;
-use checks::read::link_between;
-use checks::read::process_of;
-use checks::unread::unread;
 use checks::verdict::Verdict;
-use checks::write::connect;
-use checks::write::set_request;
+use roster::Roster;
+use roster::read::link_between;
+use roster::read::location_of;
+use roster::read::request_of;
+use roster::read::standing_of;
+use roster::write::connect;
+use roster::write::set_location;
+use roster::write::set_request;
 use transit::Place;
 use transit::Rank;
-use transit::Selection;
-use transit::relabel::relabel;
+use transit::Slots;
+use transit::relabel::relabel_between;
 
-fn call_checked(a: Rank, c: Rank, first: Process, second: Process, link: Link) -> Verdict
-    ensures { λ v. ⌜ verdictOf v ≡ judged passed (callTests a c first second link) ⌝ }
+fn call_checked(
+    a: Rank,
+    b: Rank,
+    first: Status,
+    second: Status,
+    request: Request,
+    line: Connection,
+) -> Verdict
+    ensures { λ v. ⌜ verdictOf v ≡ judged passed (callTests a b first second request line) ⌝ }
 {
-    let standing = first.status;
-    let other = second.status;
-    let request = first.request;
-    let line = link.connection;
-    Verdict::on_two(a, c, standing, other)
-        .running(standing)
+    Verdict::on_two(a, b, first, second)
+        .running(first)
         .unless(!line.is_closed(), Refusal::Connected)
         .unless(request.is_open(), Refusal::RequestOpen)
 }
 
-// `a`'s table: what it believes about each rank.
-fn table_of(locations: [Vmid; 256], a: Rank) -> [Vmid; 16]
-    requires { ⌜ a .0 < 16 ⌝ }
-    ensures { λ row. ⌜ row ≡ tableOf a locations ⌝ }
+pub fn call_verdict(a: Rank, b: Rank, roster: &Roster) -> Verdict
+    requires { ⌜ Whole (now roster) ⌝ }
+    ensures { λ v. ⌜ ((u : Unread) → Judges (Record.Call a b) (withUnread u (ranksOf (now (roster .entry)))) v) ⌝ }
 {
-    let unknown = Vmid(0, 0);
-    let mut row = [unknown; 16];
-    let start = 16 * (a.0 as usize);
-    let mut i: usize = 0;
-    while i < 16 {
-        let v = locations[start + i];
-        row[i] = v;
-        i += 1;
-    }
-    row
+    let first = standing_of(a, roster);
+    let second = standing_of(b, roster);
+    let request = request_of(a, roster);
+    let link = link_between(a, b, roster);
+    let line = link.connection;
+    call_checked(a, b, first, second, request, line)
 }
 
-// `a`'s call opens, posted to its entry for `c`.
-fn post(b: Broker, a: Rank, c: Rank) -> Settled
-    requires { ⌜ (a .0 < 16) × (c .0 < 16) ⌝ }
-    ensures { λ out. ⌜ settled out ≡ accepted (call a c (view b)) ⌝ }
+// `a`'s call opens, posted to its entry for `b`.
+pub fn call(a: Rank, b: Rank, roster: &mut Roster) -> Values
+    requires { ⌜ Whole (now roster) ⌝ }
+    ensures { λ v. ⌜ RosterDoes (call a b) (now (roster .entry)) v (now (roster .exit)) ⌝ }
 {
-    let locations = b.locations;
-    let processes = b.processes;
-    let table = table_of(locations, a);
-    let i = c.0 as usize;
-    let v = table[i];
-    let asked = set_request(processes, a, Request::Posted(c, v));
-    let mut next = b;
-    next.processes = asked;
-    Settled {
-        broker: next,
-        answer: Answer::Accepted(v.0 as u32, v.1 as u32, 0),
-    }
+    let vmid = location_of(a, b, roster);
+    set_request(a, Request::Posted(b, vmid), roster);
+    Values(vmid.0 as u32, vmid.1 as u32, 0)
 }
 
-pub fn call(b: Broker, a: Rank, c: Rank) -> Settled
-    ensures { λ out. ⌜ settled out ≡ settle (rank 0) (Record.Call a c) (view b) ⌝ }
+fn route_checked(a: Rank, b: Rank, first: Status, second: Status, request: Request) -> Verdict
+    ensures { λ v. ⌜ verdictOf v ≡ judged passed (routeTests a b first second request) ⌝ }
 {
-    let processes = b.processes;
-    let links = b.links;
-    let first = process_of(processes, a);
-    let second = process_of(processes, c);
-    let link = link_between(links, a, c);
-    let verdict = call_checked(a, c, first, second, link);
-    match verdict {
-        Verdict::Refused(n) => Settled {
-            broker: b,
-            answer: Answer::Refused(n),
-        },
-        Verdict::Passed => post(b, a, c),
+    Verdict::on_two(a, b, first, second).unless(!request.asks_for(b), Refusal::NoRequest)
+}
+
+pub fn route_verdict(a: Rank, b: Rank, roster: &Roster) -> Verdict
+    requires { ⌜ Whole (now roster) ⌝ }
+    ensures { λ v. ⌜ ((u : Unread) → Judges (Record.Route a b) (withUnread u (ranksOf (now (roster .entry)))) v) ⌝ }
+{
+    let first = standing_of(a, roster);
+    let second = standing_of(b, roster);
+    let request = request_of(a, roster);
+    route_checked(a, b, first, second, request)
+}
+
+// `a`'s call closes if it goes to `b`.
+fn withdraw(a: Rank, b: Rank, roster: &mut Roster)
+    requires { ⌜ Whole (now roster) ⌝ }
+    ensures { λ _. ⌜ Holds (now (roster .exit)) (withdraw a b (ranksOf (now (roster .entry)))) ⌝ }
+{
+    let request = request_of(a, roster);
+    if request.asks_for(b) {
+        set_request(a, Request::Absent, roster);
     }
 }
 
-fn route_checked(a: Rank, c: Rank, first: Process, second: Process) -> Verdict
-    ensures { λ v. ⌜ verdictOf v ≡ judged passed (routeTests a c first second) ⌝ }
+// Both lines between `a` and `b`.
+fn connect_both(a: Rank, b: Rank, line: Connection, roster: &mut Roster)
+    requires { ⌜ Whole (now roster) ⌝ }
+    ensures { λ _. ⌜ Holds (now (roster .exit)) (connectBoth a b line (ranksOf (now (roster .entry)))) ⌝ }
 {
-    let standing = first.status;
-    let other = second.status;
-    let request = first.request;
-    Verdict::on_two(a, c, standing, other).unless(!request.asks_for(c), Refusal::NoRequest)
-}
-
-// Both lines between `a` and `c`.
-fn connect_both(links: [Link; 256], a: Rank, c: Rank, line: Connection) -> [Link; 256]
-    ensures { λ out. ⌜ out ≡ connect c a line (connect a c line links) ⌝ }
-{
-    let there = connect(links, a, c, line);
-    connect(there, c, a, line)
-}
-
-// `a`'s call closes if it goes to `c`.
-fn withdraw(processes: [Process; 16], a: Rank, c: Rank) -> [Process; 16]
-    ensures { λ out. ⌜ out ≡ withdrawn a c processes ⌝ }
-{
-    let p = process_of(processes, a);
-    let request = p.request;
-    if request.asks_for(c) {
-        set_request(processes, a, Request::Absent)
-    } else {
-        processes
-    }
-}
-
-// The rank called has ended: the call closes.
-fn close_call(b: Broker, a: Rank) -> Settled
-    ensures { λ out. ⌜ settled out ≡ accepted (done (withRequest a Request.Absent (view b)) 2 0 0) ⌝ }
-{
-    let processes = b.processes;
-    let closed = set_request(processes, a, Request::Absent);
-    let mut next = b;
-    next.processes = closed;
-    Settled {
-        broker: next,
-        answer: Answer::Accepted(2, 0, 0),
-    }
+    connect(a, b, line, roster);
+    connect(b, a, line, roster);
 }
 
 // The call was posted to the current end: a plain line stands both ways, and calls between the two close.
-fn route_there(b: Broker, a: Rank, c: Rank, v: Vmid) -> Settled
-    ensures { λ out. ⌜ settled out ≡ accepted (routeThere a c v (view b)) ⌝ }
+fn route_there(a: Rank, b: Rank, end: Vmid, roster: &mut Roster) -> Values
+    requires { ⌜ Whole (now roster) ⌝ }
+    ensures { λ v. ⌜ RosterDoes (routeThere a b end) (now (roster .entry)) v (now (roster .exit)) ⌝ }
 {
-    let processes = b.processes;
-    let links = b.links;
-    let joined = connect_both(links, a, c, Connection::Open);
-    let answered = withdraw(processes, a, c);
-    let crossed = withdraw(answered, c, a);
-    let mut next = b;
-    next.links = joined;
-    next.processes = crossed;
-    Settled {
-        broker: next,
-        answer: Answer::Accepted(0, v.0 as u32, v.1 as u32),
-    }
+    connect_both(a, b, Connection::Open, roster);
+    withdraw(a, b, roster);
+    withdraw(b, a, roster);
+    Values(0, end.0 as u32, end.1 as u32)
 }
 
 // It was not: the entry and the call go to the current end.
-fn route_on(b: Broker, a: Rank, c: Rank, v: Vmid) -> Settled
-    requires { ⌜ (a .0 < 16) × (c .0 < 16) ⌝ }
-    ensures { λ out. ⌜ settled out ≡ accepted (routeOn a c v (view b)) ⌝ }
+fn route_on(a: Rank, b: Rank, end: Vmid, roster: &mut Roster) -> Values
+    requires { ⌜ Whole (now roster) ⌝ }
+    ensures { λ v. ⌜ RosterDoes (routeOn a b end) (now (roster .entry)) v (now (roster .exit)) ⌝ }
 {
-    let processes = b.processes;
-    let reposted = set_request(processes, a, Request::Posted(c, v));
-    let at = cell(a, c);
-    let mut next = b;
-    next.locations[at] = v;
-    next.processes = reposted;
-    Settled {
-        broker: next,
-        answer: Answer::Accepted(1, v.0 as u32, v.1 as u32),
-    }
+    set_location(a, b, end, roster);
+    set_request(a, Request::Posted(b, end), roster);
+    Values(1, end.0 as u32, end.1 as u32)
 }
 
-// What becomes of `a`'s call to `c`.
-fn lead(b: Broker, a: Rank, c: Rank) -> Settled
-    requires { ⌜ (a .0 < 16) × (c .0 < 16) ⌝ }
-    ensures { λ out. ⌜ settled out ≡ accepted (route a c (view b)) ⌝ }
+// What becomes of `a`'s call to `b`.
+pub fn route(a: Rank, b: Rank, roster: &mut Roster) -> Values
+    requires { ⌜ Whole (now roster) ⌝ }
+    ensures { λ v. ⌜ RosterDoes (route a b) (now (roster .entry)) v (now (roster .exit)) ⌝ }
 {
-    let processes = b.processes;
-    let first = process_of(processes, a);
-    let second = process_of(processes, c);
-    let request = first.request;
-    let standing = second.status;
-    let end = standing.endpoint();
+    let request = request_of(a, roster);
+    let standing = standing_of(b, roster);
     let posted = request.posted_to();
+    let end = standing.endpoint();
     if standing.is_ended() {
-        return close_call(b, a);
+        set_request(a, Request::Absent, roster);
+        return Values(2, 0, 0);
     }
     if posted.same(end) {
-        return route_there(b, a, c, end);
+        return route_there(a, b, end, roster);
     }
-    route_on(b, a, c, end)
+    route_on(a, b, end, roster)
 }
 
-pub fn route(b: Broker, a: Rank, c: Rank) -> Settled
-    ensures { λ out. ⌜ settled out ≡ settle (rank 0) (Record.Route a c) (view b) ⌝ }
+fn part_checked(a: Rank, b: Rank, first: Status, second: Status, line: Connection) -> Verdict
+    ensures { λ v. ⌜ verdictOf v ≡ judged passed (partTests a b first second line) ⌝ }
 {
-    let processes = b.processes;
-    let first = process_of(processes, a);
-    let second = process_of(processes, c);
-    let verdict = route_checked(a, c, first, second);
-    match verdict {
-        Verdict::Refused(n) => Settled {
-            broker: b,
-            answer: Answer::Refused(n),
-        },
-        Verdict::Passed => lead(b, a, c),
-    }
-}
-
-fn part_checked(a: Rank, c: Rank, first: Process, second: Process, link: Link) -> Verdict
-    ensures { λ v. ⌜ verdictOf v ≡ judged passed (partTests a c first second link) ⌝ }
-{
-    let standing = first.status;
-    let other = second.status;
-    let line = link.connection;
-    Verdict::on_two(a, c, standing, other)
-        .running(standing)
+    Verdict::on_two(a, b, first, second)
+        .running(first)
         .unless(line.is_closed(), Refusal::NotConnected)
         .unless(line.is_closing(), Refusal::PeerMigrating)
 }
 
-// The channels between `a` and `c` are read into the lists, and their lines close.
-fn separate(b: Broker, a: Rank, c: Rank) -> Settled
-    ensures { λ out. ⌜ settled out ≡ accepted (part a c (view b)) ⌝ }
+pub fn part_verdict(a: Rank, b: Rank, roster: &Roster) -> Verdict
+    requires { ⌜ Whole (now roster) ⌝ }
+    ensures { λ v. ⌜ ((u : Unread) → Judges (Record.Part a b) (withUnread u (ranksOf (now (roster .entry)))) v) ⌝ }
 {
-    let links = b.links;
-    let transit = b.transit;
-    let towards_a = Selection::BetweenAt(c, a, Place::Channel);
-    let towards_c = Selection::BetweenAt(a, c, Place::Channel);
-    let moved_to_a = unread(transit, towards_a);
-    let moved_to_c = unread(transit, towards_c);
-    let read_by_a = relabel(transit, towards_a, Place::List);
-    let read = relabel(read_by_a, towards_c, Place::List);
-    let closed = connect_both(links, a, c, Connection::Closed);
-    let mut next = b;
-    next.links = closed;
-    next.transit = read;
-    Settled {
-        broker: next,
-        answer: Answer::Accepted(moved_to_a, moved_to_c, 0),
-    }
+    let first = standing_of(a, roster);
+    let second = standing_of(b, roster);
+    let link = link_between(a, b, roster);
+    let line = link.connection;
+    part_checked(a, b, first, second, line)
 }
 
-pub fn part(b: Broker, a: Rank, c: Rank) -> Settled
-    ensures { λ out. ⌜ settled out ≡ settle (rank 0) (Record.Part a c) (view b) ⌝ }
+// The channels between `a` and `b` are read into the lists, and their lines close.
+pub fn part(a: Rank, b: Rank, slots: &mut Slots, roster: &mut Roster) -> Values
+    requires { ⌜ Whole (now roster) ⌝ }
+    requires { ⌜ (a .0 < 16) × (b .0 < 16) ⌝ }
+    requires apart { ⌜ sameRank a b ≡ false ⌝ }
+    ensures { λ v. ⌜ ((contents : List ℕ) → Mail (now (slots .entry)) contents → DeskDoes (part a b) (now (slots .entry)) contents
+        (now (roster .entry)) v (now (slots .exit)) contents (now (roster .exit))) ⌝ }
 {
-    let processes = b.processes;
-    let links = b.links;
-    let first = process_of(processes, a);
-    let second = process_of(processes, c);
-    let link = link_between(links, a, c);
-    let verdict = part_checked(a, c, first, second, link);
-    match verdict {
-        Verdict::Refused(n) => Settled {
-            broker: b,
-            answer: Answer::Refused(n),
-        },
-        Verdict::Passed => separate(b, a, c),
-    }
+    let to_first = relabel_between(b, a, Place::Channel, Place::List, slots);
+    let to_second = relabel_between(a, b, Place::Channel, Place::List, slots);
+    connect_both(a, b, Connection::Closed, roster);
+    Values(to_first as u32, to_second as u32, 0)
 }

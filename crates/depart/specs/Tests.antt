@@ -8,15 +8,14 @@ use Rattle.transit.specs.declared.Rank.{Rank}
 use Rattle.broker.specs.Names.{hosts, numbers, isStarted, endpoint, isOpenRequest}
 use Rattle.broker.specs.Ranks.{isRank}
 use Rattle.broker.specs.declared.answer.Refusal.the-variants.{RankRange, HostRange, NotStarted, RequestOpen, SameHost, NumbersSpent}
-use Rattle.broker.specs.declared.process.Process.{Process}
+use Rattle.broker.specs.declared.process.Request.{Request}
+use Rattle.broker.specs.declared.process.Status.{Status}
 use Rattle.checks.specs.Tests.{runningTests}
 use Rattle.checks.specs.Verdict.{Test, test}
 
--- of the rank's process, and of how many numbers are drawn on the host
-abbrev pub moveTests : Rank → ℕ → Process → ℕ → List Test
-moveTests r h p n =
-    (test (not (isRank r)) RankRange ∷ test (not (ltb h hosts)) HostRange ∷ test (not (isStarted (p .status))) NotStarted ∷ []) ++
-    runningTests (p .status) ++
-    (test (isOpenRequest (p .request)) RequestOpen ∷
-    test (eqb h (endpoint (p .status) .0)) SameHost ∷
-    test (leb numbers n) NumbersSpent ∷ [])
+-- of the rank's standing and call, and of how many numbers are drawn on the host
+abbrev pub moveTests : Rank → ℕ → Status → Request → ℕ → List Test
+moveTests r h t q n =
+    (test (not (isRank r)) RankRange ∷ test (not (ltb h hosts)) HostRange ∷ test (not (isStarted t)) NotStarted ∷ []) ++
+    runningTests t ++
+    (test (isOpenRequest q) RequestOpen ∷ test (eqb h (endpoint t .0)) SameHost ∷ test (leb numbers n) NumbersSpent ∷ [])

@@ -1,69 +1,73 @@
 // What a move leaves behind: its lines, and the messages of the source process. Paper 01, "The step log", kind 06.
+ghost use mathlib.Core.List.{List};
 ghost use mathlib.Core.Path.{_≡_};
-ghost use Rattle.transit.specs.Unread.{view};
-ghost use Rattle.broker.specs.Migrate.{leftBehind, leave, leaveAll};
+ghost use Prim.Native.Nat.{ℕ, _<_};
+ghost use Rattle.transit.specs.Mail.{Mail};
+ghost use Rattle.broker.specs.Migrate.{leave, leaveAll};
+ghost use Rattle.broker.specs.State.{withLinks};
+ghost use Rattle.roster.specs.Roster.{ranksOf, Holds, Whole};
+ghost use Rattle.depart.specs.Behind.{LeftBehind};
 use broker::link::Backlog;
 use broker::link::Connection;
 use broker::link::Link;
-use checks::backlog::awaiting;
-use checks::read::link_between;
-use checks::write::connect;
-use checks::write::set_link;
+use roster::Roster;
+use roster::read::link_between;
+use roster::write::awaiting;
+use roster::write::connect;
+use roster::write::set_link;
 use transit::Place;
 use transit::Rank;
-use transit::Selection;
-use transit::Transit;
-use transit::relabel::relabel;
+use transit::Slots;
+use transit::relabel::relabel_to;
 
 // What `r`'s move does between `r` and `p`.
-pub fn leave(links: [Link; 256], r: Rank, p: Rank) -> [Link; 256]
-    ensures { λ out. ⌜ out ≡ leave r p links ⌝ }
+fn leave(r: Rank, p: Rank, roster: &mut Roster)
+    requires { ⌜ Whole (now roster) ⌝ }
+    ensures { λ _. ⌜ Holds (now (roster .exit)) (withLinks (leave r p (ranksOf (now (roster .entry)) .links)) (ranksOf
+        (now (roster .entry)))) ⌝ }
 {
-    let link = link_between(links, r, p);
+    let link = link_between(r, p, roster);
     let line = link.connection;
     match line {
-        Connection::Closed => links,
+        Connection::Closed => {}
         Connection::Open => {
             let own = Link {
                 connection: Connection::Closed,
                 backlog: Backlog::Open,
             };
-            let left = set_link(links, r, p, own);
-            connect(left, p, r, Connection::Closing)
+            set_link(r, p, own, roster);
+            connect(p, r, Connection::Closing, roster);
         }
         Connection::Closing => {
             let own = Link {
                 connection: Connection::Closed,
                 backlog: Backlog::Marked,
             };
-            let left = set_link(links, r, p, own);
-            awaiting(left, p, r, Backlog::Marked)
+            set_link(r, p, own, roster);
+            awaiting(p, r, Backlog::Marked, roster);
         }
     }
 }
 
 // What it does between `r` and everybody.
-pub fn leave_all(links: [Link; 256], r: Rank) -> [Link; 256]
-    ensures { λ out. ⌜ out ≡ leaveAll r links ⌝ }
+pub fn leave_all(r: Rank, roster: &mut Roster)
+    requires { ⌜ Whole (now roster) ⌝ }
+    ensures { λ _. ⌜ Holds (now (roster .exit)) (withLinks (leaveAll r (ranksOf (now (roster .entry)) .links)) (ranksOf
+        (now (roster .entry)))) ⌝ }
 {
-    let mut next = links;
     let mut i: u8 = 0;
     while i < 16 {
-        let left = leave(next, r, Rank(i));
-        next = left;
+        leave(r, Rank(i), roster);
         i += 1;
     }
-    next
 }
 
 // The messages to `r` stay with its source process.
-pub fn leave_behind(t: Transit, r: Rank) -> Transit
-    ensures { λ out. ⌜ view out ≡ leftBehind r (view t) ⌝ }
+pub fn leave_behind(r: Rank, slots: &mut Slots)
+    requires { ⌜ r .0 < 16 ⌝ }
+    ensures { λ _. ⌜ ((contents : List ℕ) → Mail (now (slots .entry)) contents → LeftBehind r (now (slots .entry)) contents
+        (now (slots .exit))) ⌝ }
 {
-    let listed = relabel(t, Selection::ToAt(r, Place::List), Place::SourceList);
-    relabel(
-        listed,
-        Selection::ToAt(r, Place::Channel),
-        Place::SourceChannel,
-    )
+    let listed = relabel_to(r, Place::List, Place::SourceList, slots);
+    let on_channel = relabel_to(r, Place::Channel, Place::SourceChannel, slots);
 }

@@ -1,40 +1,43 @@
-// Move: its checks in the paper's order, and, where none applies, its change of the state. Paper 01, "The step log", kind 06.
+// Move: its checks in the paper's order, and what it does where none applies. Paper 01, "The step log", kind 06.
+ghost use mathlib.Core.List.{List};
 ghost use mathlib.Core.Path.{_≡_};
-ghost use Prim.Native.Nat.{_<_};
+ghost use Prim.Native.Nat.{ℕ, _<_};
+ghost use Rattle.transit.specs.Mail.{Mail};
+ghost use Rattle.transit.specs.Unread.{Unread};
 ghost use Rattle.broker.specs.Migrate.{move};
 ghost use Rattle.broker.specs.Names.{numbers};
-ghost use Rattle.broker.specs.Ranks.{rank};
-ghost use Rattle.broker.specs.State.{view, drawnOn};
-ghost use Rattle.broker.specs.Step.{settle};
+ghost use Rattle.broker.specs.State.{drawnOn, withUnread};
 ghost use Rattle.broker.specs.declared.record.Record.{Record};
-ghost use Rattle.checks.specs.Settled.{settled, accepted};
+ghost use Rattle.roster.specs.Roster.{ranksOf, Whole};
+ghost use Rattle.checks.specs.Desk.{DeskDoes, Judges};
 ghost use Rattle.checks.specs.Verdict.{verdictOf, passed, judged};
 ghost use Rattle.depart.specs.Tests.{moveTests};
 use crate::leaving::leave_all;
 use crate::leaving::leave_behind;
-use broker::answer::Answer;
 use broker::answer::Refusal;
-use broker::process::Process;
+use broker::answer::Values;
+use broker::process::Request;
 use broker::process::Status;
 use broker::process::Vmid;
 use broker::state::Broker;
-use checks::Settled;
-use checks::backlog::awaits;
-use checks::read::drawn_on;
-use checks::read::is_host;
-use checks::read::is_rank;
-use checks::read::process_of;
+use checks::names::is_host;
+use checks::names::is_rank;
 use checks::verdict::Verdict;
-use checks::write::set_status;
+use roster::Roster;
+use roster::awaits::awaits;
+use roster::read::drawn_on;
+use roster::read::request_of;
+use roster::read::standing_of;
+use roster::write::set_drawn;
+use roster::write::set_standing;
 use transit::Rank;
+use transit::Slots;
 
 mod leaving;
 
-fn move_checked(r: Rank, host: u8, p: Process, drawn: u16) -> Verdict
-    ensures { λ v. ⌜ verdictOf v ≡ judged passed (moveTests r host p drawn) ⌝ }
+fn move_checked(r: Rank, host: u8, standing: Status, request: Request, drawn: u16) -> Verdict
+    ensures { λ v. ⌜ verdictOf v ≡ judged passed (moveTests r host standing request drawn) ⌝ }
 {
-    let standing = p.status;
-    let request = p.request;
     let end = standing.endpoint();
     Verdict::passed()
         .unless(!is_rank(r), Refusal::RankRange)
@@ -46,48 +49,31 @@ fn move_checked(r: Rank, host: u8, p: Process, drawn: u16) -> Verdict
         .unless(Broker::NUMBERS <= drawn, Refusal::NumbersSpent)
 }
 
-// `r` migrates to `host` with its next number, and the lines that it has are left.
-fn depart(b: Broker, r: Rank, host: u8) -> Settled
-    requires { ⌜ drawnOn (view b) host < numbers ⌝ }
-    requires { ⌜ host < 8 ⌝ }
-    ensures { λ out. ⌜ settled out ≡ accepted (move r host (view b)) ⌝ }
+pub fn move_verdict(r: Rank, host: u8, roster: &Roster) -> Verdict
+    requires { ⌜ Whole (now roster) ⌝ }
+    ensures { λ v. ⌜ ((u : Unread) → Judges (Record.Move r host) (withUnread u (ranksOf (now (roster .entry)))) v) ⌝ }
 {
-    let drawn = b.drawn;
-    let processes = b.processes;
-    let links = b.links;
-    let transit = b.transit;
-    let number = drawn_on(drawn, host) + 1;
-    let p = process_of(processes, r);
-    let standing = p.status;
-    let source = standing.endpoint();
-    let migrating = set_status(processes, r, Status::Migrating(source, Vmid(host, number)));
-    let left = leave_all(links, r);
-    let awaited = awaits(left, r);
-    let behind = leave_behind(transit, r);
-    let h = host as usize;
-    let mut next = b;
-    next.drawn[h] = number;
-    next.processes = migrating;
-    next.transit = behind;
-    next.links = left;
-    Settled {
-        broker: next,
-        answer: Answer::Accepted(host as u32, number as u32, awaited),
-    }
+    let standing = standing_of(r, roster);
+    let request = request_of(r, roster);
+    let drawn = drawn_on(host, roster);
+    move_checked(r, host, standing, request, drawn)
 }
 
-pub fn move_to(b: Broker, r: Rank, host: u8) -> Settled
-    ensures { λ out. ⌜ settled out ≡ settle (rank 0) (Record.Move r host) (view b) ⌝ }
+// `r` migrates to `host` with its next number, and the lines that it has are left.
+pub fn move_to(r: Rank, host: u8, slots: &mut Slots, roster: &mut Roster) -> Values
+    requires { ⌜ Whole (now roster) ⌝ }
+    requires { ⌜ r .0 < 16 ⌝ }
+    requires { ⌜ drawnOn (ranksOf (now roster)) host < numbers ⌝ }
+    ensures { λ v. ⌜ ((contents : List ℕ) → Mail (now (slots .entry)) contents → DeskDoes (move r host) (now (slots .entry)) contents
+        (now (roster .entry)) v (now (slots .exit)) contents (now (roster .exit))) ⌝ }
 {
-    let processes = b.processes;
-    let drawn = b.drawn;
-    let p = process_of(processes, r);
-    let verdict = move_checked(r, host, p, drawn_on(drawn, host));
-    match verdict {
-        Verdict::Refused(n) => Settled {
-            broker: b,
-            answer: Answer::Refused(n),
-        },
-        Verdict::Passed => depart(b, r, host),
-    }
+    let number = drawn_on(host, roster) + 1;
+    let standing = standing_of(r, roster);
+    let source = standing.endpoint();
+    set_drawn(host, number, roster);
+    set_standing(r, Status::Migrating(source, Vmid(host, number)), roster);
+    leave_behind(r, slots);
+    leave_all(r, roster);
+    let awaited = awaits(r, roster);
+    Values(host as u32, number as u32, awaited)
 }

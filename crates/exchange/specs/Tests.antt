@@ -2,7 +2,7 @@
 -- Paper 01, "Where each step is checked". Assumes nothing.
 use mathlib.Core.List.{List, [], _∷_, _++_}
 use Prim.Native.Nat.{ℕ}
-use lib.Dec.{leb}
+use lib.Dec.{eqb, leb}
 use Rattle.transit.specs.Unread.{limit}
 use Rattle.transit.specs.declared.Found.{Found}
 use Rattle.transit.specs.declared.Rank.{Rank}
@@ -19,9 +19,9 @@ abbrev pub sendTests : Rank → Rank → Status → Status → Connection → �
 sendTests a b t u l n =
     twoTests a b t u ++ runningTests t ++ (test (isClosed l) NotConnected ∷ test (leb limit n) Full ∷ [])
 
--- take: of the two ranks' standings, and of the first message in place order from the second one to the first
-abbrev pub takeTests : Rank → Rank → Status → Status → Found → List Test
-takeTests b a t u f = twoTests b a t u ++ runningTests t ++ (test (isNothing f) NothingUnread ∷ [])
+-- take: of the two ranks' standings, and of how many messages from the second one to the first are unread
+abbrev pub takeTests : Rank → Rank → Status → Status → ℕ → List Test
+takeTests b a t u n = twoTests b a t u ++ runningTests t ++ (test (eqb n 0) NothingUnread ∷ [])
 
 -- look: of the rank's standing, and of the first message to it
 abbrev pub lookTests : Rank → Status → Found → List Test

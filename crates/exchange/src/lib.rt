@@ -1,50 +1,69 @@
-// Send, take and look: the checks of each in the paper's order, and, where none applies, its change of the state.
+// Send, take and look: the checks of each in the paper's order, and what each does where none applies.
 // Paper 01, "The step log", kinds 04, 05 and 0C.
+ghost use mathlib.Core.List.{List};
 ghost use mathlib.Core.Path.{_≡_};
-ghost use Rattle.broker.specs.Messages.{placeOver, valueIn};
-ghost use Rattle.broker.specs.Ranks.{rank};
-ghost use Rattle.broker.specs.State.{view};
-ghost use Rattle.broker.specs.Step.{settle};
+ghost use lib.ListN.{length};
+ghost use Prim.Native.Nat.{ℕ, _<_};
+ghost use Rattle.transit.specs.Lists.{tally};
+ghost use Rattle.transit.specs.Mail.{Mail, messagesIn};
+ghost use Rattle.transit.specs.Message.{between, to};
+ghost use Rattle.transit.specs.Unread.{limit};
+ghost use Rattle.broker.specs.Messages.{placeOver, send, take};
 ghost use Rattle.broker.specs.declared.record.Record.{Record};
-ghost use Rattle.checks.specs.Settled.{settled, accepted};
+ghost use Rattle.roster.specs.Roster.{Whole};
+ghost use Rattle.checks.specs.Desk.{deskOf, Desk, DeskDoes, Judges};
+ghost use Rattle.checks.specs.Look.{senderIn, lookOldest};
 ghost use Rattle.checks.specs.Verdict.{verdictOf, passed, judged};
-ghost use Rattle.exchange.specs.Deliver.{deliver};
-ghost use Rattle.exchange.specs.Look.{senderIn, oldest};
 ghost use Rattle.exchange.specs.Tests.{sendTests, takeTests, lookTests};
-use broker::answer::Answer;
 use broker::answer::Refusal;
+use broker::answer::Values;
 use broker::link::Connection;
 use broker::process::Status;
-use broker::state::Broker;
-use checks::Settled;
-use checks::read::link_between;
-use checks::read::process_of;
 use checks::unread::is_nothing;
 use checks::verdict::Verdict;
+use roster::Roster;
+use roster::read::link_between;
+use roster::read::standing_of;
+use transit::Contents;
 use transit::Found;
 use transit::Message;
 use transit::Place;
 use transit::Rank;
-use transit::Selection;
+use transit::Slots;
 use transit::Transit;
 use transit::append::append;
-use transit::find::first;
+use transit::count::unread;
+use transit::count::unread_between;
+use transit::find::first_to;
 use transit::remove::remove;
 
 fn send_checked(
     a: Rank,
-    c: Rank,
+    b: Rank,
     sender: Status,
     receiver: Status,
     line: Connection,
     unread: usize,
 ) -> Verdict
-    ensures { λ v. ⌜ verdictOf v ≡ judged passed (sendTests a c sender receiver line unread) ⌝ }
+    ensures { λ v. ⌜ verdictOf v ≡ judged passed (sendTests a b sender receiver line unread) ⌝ }
 {
-    Verdict::on_two(a, c, sender, receiver)
+    Verdict::on_two(a, b, sender, receiver)
         .running(sender)
         .unless(line.is_closed(), Refusal::NotConnected)
         .unless(Transit::LIMIT <= unread, Refusal::Full)
+}
+
+pub fn send_verdict(a: Rank, b: Rank, slots: &Slots, roster: &Roster) -> Verdict
+    requires { ⌜ Whole (now roster) ⌝ }
+    ensures { λ v. ⌜ ((contents : List ℕ) (value : ℕ) → Mail (now (slots .entry)) contents → Judges (Record.Send a b value) (deskOf
+        (now (slots .entry)) contents (now (roster .entry))) v) ⌝ }
+{
+    let sender = standing_of(a, roster);
+    let receiver = standing_of(b, roster);
+    let link = link_between(a, b, roster);
+    let line = link.connection;
+    let n = unread(slots);
+    send_checked(a, b, sender, receiver, line, n)
 }
 
 // Where a message over a connection stands.
@@ -59,99 +78,65 @@ fn place_over(line: Connection) -> Place
 }
 
 // The message is unread, after all others.
-fn deliver(b: Broker, m: Message) -> Settled
-    ensures { λ out. ⌜ settled out ≡ accepted (deliver m (view b)) ⌝ }
+pub fn send(
+    a: Rank,
+    b: Rank,
+    value: u32,
+    slots: &mut Slots,
+    contents: &mut Contents,
+    roster: &Roster,
+) -> Values
+    requires { ⌜ Desk (now slots) (now contents) (now roster) ⌝ }
+    requires { ⌜ (a .0 < 16) × (b .0 < 16) ⌝ }
+    requires { ⌜ length (messagesIn (now slots) (now contents)) < limit ⌝ }
+    ensures { λ v. ⌜ DeskDoes (send a b value) (now (slots .entry)) (now (contents .entry)) (now (roster .entry)) v
+        (now (slots .exit)) (now (contents .exit)) (now (roster .entry)) ⌝ }
 {
-    let transit = b.transit;
-    let appended = append(transit, m);
-    let after = appended.transit;
-    let mut next = b;
-    next.transit = after;
-    Settled {
-        broker: next,
-        answer: Answer::Accepted(appended.pair, 0, 0),
-    }
-}
-
-pub fn send(b: Broker, a: Rank, c: Rank, value: u32) -> Settled
-    ensures { λ out. ⌜ settled out ≡ settle (rank 0) (Record.Send a c value) (view b) ⌝ }
-{
-    let processes = b.processes;
-    let links = b.links;
-    let p = process_of(processes, a);
-    let q = process_of(processes, c);
-    let sender = p.status;
-    let receiver = q.status;
-    let link = link_between(links, a, c);
+    let link = link_between(a, b, roster);
     let line = link.connection;
-    let verdict = send_checked(a, c, sender, receiver, line, b.transit.count);
-    match verdict {
-        Verdict::Refused(n) => Settled {
-            broker: b,
-            answer: Answer::Refused(n),
+    let place = place_over(line);
+    let pair = append(
+        Message {
+            sender: a,
+            receiver: b,
+            value: value,
+            place: place,
         },
-        Verdict::Passed => {
-            let place = place_over(line);
-            deliver(
-                b,
-                Message {
-                    sender: a,
-                    receiver: c,
-                    value: value,
-                    place: place,
-                },
-            )
-        }
-    }
+        slots,
+        contents,
+    );
+    Values(pair as u32, 0, 0)
 }
 
-fn take_checked(c: Rank, a: Rank, receiver: Status, sender: Status, found: Found) -> Verdict
-    ensures { λ v. ⌜ verdictOf v ≡ judged passed (takeTests c a receiver sender found) ⌝ }
+fn take_checked(b: Rank, a: Rank, receiver: Status, sender: Status, unread: u16) -> Verdict
+    ensures { λ v. ⌜ verdictOf v ≡ judged passed (takeTests b a receiver sender unread) ⌝ }
 {
-    Verdict::on_two(c, a, receiver, sender)
+    Verdict::on_two(b, a, receiver, sender)
         .running(receiver)
-        .unless(is_nothing(found), Refusal::NothingUnread)
+        .unless(unread == 0, Refusal::NothingUnread)
 }
 
-// The value of what was found.
-fn value_in(found: Found) -> u32
-    ensures { λ v. ⌜ v ≡ valueIn found ⌝ }
+pub fn take_verdict(b: Rank, a: Rank, slots: &Slots, roster: &Roster) -> Verdict
+    requires { ⌜ Whole (now roster) ⌝ }
+    ensures { λ v. ⌜ ((contents : List ℕ) → Mail (now (slots .entry)) contents → Judges (Record.Take b a) (deskOf
+        (now (slots .entry)) contents (now (roster .entry))) v) ⌝ }
 {
-    match found {
-        Found::First(m) => m.value,
-        Found::Nothing => 0,
-    }
+    let receiver = standing_of(b, roster);
+    let sender = standing_of(a, roster);
+    let n = unread_between(a, b, slots);
+    take_checked(b, a, receiver, sender, n)
 }
 
-// The first message from `a` to `c` in place order leaves: one pass finds it and counts those that stay.
-pub fn take(b: Broker, c: Rank, a: Rank) -> Settled
-    ensures { λ out. ⌜ settled out ≡ settle (rank 0) (Record.Take c a) (view b) ⌝ }
+// The first message from `a` to `b` leaves.
+pub fn take(b: Rank, a: Rank, slots: &mut Slots, contents: &Contents) -> Values
+    requires { ⌜ Mail (now slots) (now contents) ⌝ }
+    requires { ⌜ (a .0 < 16) × (b .0 < 16) ⌝ }
+    requires { ⌜ 0 < tally (between a b) (messagesIn (now slots) (now contents)) ⌝ }
+    ensures { λ v. ⌜ ((roster : List ℕ) → Whole roster → DeskDoes (take b a) (now (slots .entry)) (now (contents .entry)) roster v
+        (now (slots .exit)) (now (contents .entry)) roster) ⌝ }
 {
-    let processes = b.processes;
-    let transit = b.transit;
-    let p = process_of(processes, c);
-    let q = process_of(processes, a);
-    let receiver = p.status;
-    let sender = q.status;
-    let removed = remove(transit, Selection::Between(a, c));
-    let found = removed.found;
-    let verdict = take_checked(c, a, receiver, sender, found);
-    match verdict {
-        Verdict::Refused(n) => Settled {
-            broker: b,
-            answer: Answer::Refused(n),
-        },
-        Verdict::Passed => {
-            let after = removed.transit;
-            let value = value_in(found);
-            let mut next = b;
-            next.transit = after;
-            Settled {
-                broker: next,
-                answer: Answer::Accepted(value, removed.left, 0),
-            }
-        }
-    }
+    let removed = remove(a, b, slots, contents);
+    Values(removed.value, removed.left as u32, 0)
 }
 
 fn look_checked(r: Rank, receiver: Status, found: Found) -> Verdict
@@ -160,6 +145,15 @@ fn look_checked(r: Rank, receiver: Status, found: Found) -> Verdict
     Verdict::on_one(r, receiver)
         .running(receiver)
         .unless(is_nothing(found), Refusal::NothingUnread)
+}
+
+pub fn look_verdict(r: Rank, slots: &Slots, contents: &Contents, roster: &Roster) -> Verdict
+    requires { ⌜ Desk (now slots) (now contents) (now roster) ⌝ }
+    ensures { λ v. ⌜ Judges (Record.Look r) (deskOf (now (slots .entry)) (now (contents .entry)) (now (roster .entry))) v ⌝ }
+{
+    let receiver = standing_of(r, roster);
+    let found = first_to(r, slots, contents);
+    look_checked(r, receiver, found)
 }
 
 // The sender of what was found.
@@ -173,26 +167,12 @@ fn sender_in(found: Found) -> Rank
 }
 
 // The rank named is the sender of the message that was sent first.
-pub fn look(b: Broker, r: Rank) -> Settled
-    ensures { λ out. ⌜ settled out ≡ settle (oldest (view b) r) (Record.Look r) (view b) ⌝ }
+pub fn look(r: Rank, slots: &Slots, contents: &Contents) -> Values
+    requires { ⌜ Mail (now slots) (now contents) ⌝ }
+    ensures { λ v. ⌜ ((roster : List ℕ) → Whole roster → DeskDoes (lookOldest r) (now (slots .entry))
+        (now (contents .entry)) roster v (now (slots .entry)) (now (contents .entry)) roster) ⌝ }
 {
-    let processes = b.processes;
-    let transit = b.transit;
-    let p = process_of(processes, r);
-    let receiver = p.status;
-    let found = first(transit, Selection::To(r));
-    let verdict = look_checked(r, receiver, found);
-    match verdict {
-        Verdict::Refused(n) => Settled {
-            broker: b,
-            answer: Answer::Refused(n),
-        },
-        Verdict::Passed => {
-            let sender = sender_in(found);
-            Settled {
-                broker: b,
-                answer: Answer::Accepted(sender.0 as u32, 0, 0),
-            }
-        }
-    }
+    let found = first_to(r, slots, contents);
+    let sender = sender_in(found);
+    Values(sender.0 as u32, 0, 0)
 }

@@ -3,14 +3,17 @@
 use mathlib.Core.Bool.{Bool, not}
 use mathlib.Core.List.{List, [], _∷_, _++_}
 use Prim.Native.Nat.{ℕ}
-use lib.Dec.{eqb, leb, ltb}
+use lib.Dec.{leb, ltb}
+use Rattle.transit.specs.declared.Found.{Found}
 use Rattle.transit.specs.declared.Rank.{Rank}
 use Rattle.broker.specs.Names.{hosts, numbers, isStarted, isOpenRequest}
 use Rattle.broker.specs.Ranks.{isRank}
-use Rattle.broker.specs.declared.answer.Refusal.the-variants.{RankRange, HostRange, AlreadyStarted, Connected, RequestOpen, UnreadLeft, NumbersSpent}
-use Rattle.broker.specs.declared.process.Process.{Process}
+use Rattle.broker.specs.declared.answer.Refusal.the-variants.{RankRange, HostRange, AlreadyStarted, NumbersSpent}
+use Rattle.broker.specs.declared.answer.Refusal.the-variants.{Connected, RequestOpen, UnreadLeft}
+use Rattle.broker.specs.declared.process.Request.{Request}
 use Rattle.broker.specs.declared.process.Status.{Status}
 use Rattle.checks.specs.Tests.{oneTests, runningTests}
+use Rattle.checks.specs.Unread.{isNothing}
 use Rattle.checks.specs.Verdict.{Test, test}
 
 -- start: of the rank's standing, and of how many numbers are drawn on the host
@@ -21,9 +24,9 @@ startTests r h t n =
     test (isStarted t) AlreadyStarted ∷
     test (leb numbers n) NumbersSpent ∷ []
 
--- end: of the rank's process, of whether it has no line, and of how many messages are unread by it
-abbrev pub endTests : Rank → Process → Bool → ℕ → List Test
-endTests r p alone n =
-    oneTests r (p .status) ++
-    runningTests (p .status) ++
-    (test (not alone) Connected ∷ test (isOpenRequest (p .request)) RequestOpen ∷ test (not (eqb n 0)) UnreadLeft ∷ [])
+-- end: of the rank's standing and call, of whether it has no line, and of the first message unread by it
+abbrev pub endTests : Rank → Status → Request → Bool → Found → List Test
+endTests r t q alone f =
+    oneTests r t ++
+    runningTests t ++
+    (test (not alone) Connected ∷ test (isOpenRequest q) RequestOpen ∷ test (not (isNothing f)) UnreadLeft ∷ [])

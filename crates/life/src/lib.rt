@@ -1,37 +1,42 @@
-// Start and end: the checks of each in the paper's order, and, where none applies, its change of the state.
+// Start and end: the checks of each in the paper's order, and what each does where none applies.
 // Paper 01, "The step log", kinds 01 and 0B.
+ghost use mathlib.Core.List.{List};
 ghost use mathlib.Core.Path.{_≡_};
-ghost use lib.Dec.{eqb, leb};
-ghost use Prim.Native.Nat.{_<_};
-ghost use Rattle.broker.specs.Life.{announced, start, end};
-ghost use Rattle.broker.specs.Names.{numbers, isClosed};
-ghost use Rattle.broker.specs.Ranks.{rank, everyRank};
-ghost use Rattle.broker.specs.State.{view, linkAt, drawnOn};
-ghost use Rattle.broker.specs.Step.{settle};
+ghost use lib.Dec.{leb};
+ghost use Prim.Native.Nat.{ℕ, _<_};
+ghost use Rattle.transit.specs.Mail.{Mail};
+ghost use Rattle.transit.specs.Unread.{Unread};
+ghost use Rattle.broker.specs.Life.{start, end};
+ghost use Rattle.broker.specs.Names.{numbers};
+ghost use Rattle.broker.specs.State.{drawnOn, withUnread};
 ghost use Rattle.broker.specs.declared.record.Record.{Record};
-ghost use Rattle.checks.specs.Settled.{settled, accepted};
+ghost use Rattle.roster.specs.Roster.{ranksOf, Whole};
+ghost use Rattle.checks.specs.Desk.{deskOf, RosterDoes, Judges};
 ghost use Rattle.checks.specs.Verdict.{verdictOf, passed, judged};
 ghost use Rattle.life.specs.Tests.{startTests, endTests};
-use broker::answer::Answer;
 use broker::answer::Refusal;
-use broker::link::Link;
-use broker::process::Process;
+use broker::answer::Values;
+use broker::process::Request;
 use broker::process::Status;
 use broker::process::Vmid;
 use broker::state::Broker;
-use checks::Settled;
-use checks::read::both;
-use checks::read::cell;
-use checks::read::drawn_on;
-use checks::read::is_host;
-use checks::read::is_rank;
-use checks::read::link_between;
-use checks::read::process_of;
+use checks::names::is_host;
+use checks::names::is_rank;
+use checks::unread::is_nothing;
 use checks::verdict::Verdict;
-use checks::write::set_status;
+use roster::Roster;
+use roster::awaits::alone;
+use roster::read::drawn_on;
+use roster::read::request_of;
+use roster::read::standing_of;
+use roster::write::announce;
+use roster::write::set_drawn;
+use roster::write::set_standing;
+use transit::Contents;
+use transit::Found;
 use transit::Rank;
-use transit::Selection;
-use transit::count::count;
+use transit::Slots;
+use transit::find::first_to;
 
 fn numbers_spent(drawn: u16) -> bool
     ensures { λ b. ⌜ b ≡ leb numbers drawn ⌝ }
@@ -49,126 +54,58 @@ fn start_checked(r: Rank, host: u8, standing: Status, drawn: u16) -> Verdict
         .unless(numbers_spent(drawn), Refusal::NumbersSpent)
 }
 
-// Everybody's entry for `r` becomes `v`.
-fn announce(locations: [Vmid; 256], r: Rank, v: Vmid) -> [Vmid; 256]
-    requires { ⌜ r .0 < 16 ⌝ }
-    ensures { λ out. ⌜ out ≡ announced r v locations ⌝ }
+pub fn start_verdict(r: Rank, host: u8, roster: &Roster) -> Verdict
+    requires { ⌜ Whole (now roster) ⌝ }
+    ensures { λ v. ⌜ ((u : Unread) → Judges (Record.Start r host) (withUnread u (ranksOf (now (roster .entry)))) v) ⌝ }
 {
-    let mut next = locations;
-    let mut i: u8 = 0;
-    while i < Broker::RANKS {
-        let at = cell(Rank(i), r);
-        next[at] = v;
-        i += 1;
-    }
-    next
+    let standing = standing_of(r, roster);
+    let drawn = drawn_on(host, roster);
+    start_checked(r, host, standing, drawn)
 }
 
 // `r` runs on `host` with its next number, and everybody is told.
-fn run(b: Broker, r: Rank, host: u8) -> Settled
-    requires { ⌜ (r .0 < 16) × (host < 8) ⌝ }
-    requires room { ⌜ drawnOn (view b) host < numbers ⌝ }
-    ensures { λ out. ⌜ settled out ≡ accepted (start r host (view b)) ⌝ }
+pub fn start(r: Rank, host: u8, roster: &mut Roster) -> Values
+    requires { ⌜ Whole (now roster) ⌝ }
+    requires { ⌜ drawnOn (ranksOf (now roster)) host < numbers ⌝ }
+    ensures { λ v. ⌜ RosterDoes (start r host) (now (roster .entry)) v (now (roster .exit)) ⌝ }
 {
-    let drawn = b.drawn;
-    let locations = b.locations;
-    let processes = b.processes;
-    let number = drawn_on(drawn, host) + 1;
+    let number = drawn_on(host, roster) + 1;
     let vmid = Vmid(host, number);
-    let told = announce(locations, r, vmid);
-    let started = set_status(processes, r, Status::Running(vmid));
-    let h = host as usize;
-    let mut next = b;
-    next.drawn[h] = number;
-    next.processes = started;
-    next.locations = told;
-    Settled {
-        broker: next,
-        answer: Answer::Accepted(host as u32, number as u32, 0),
-    }
+    set_drawn(host, number, roster);
+    set_standing(r, Status::Running(vmid), roster);
+    announce(r, vmid, roster);
+    Values(host as u32, number as u32, 0)
 }
 
-pub fn start(b: Broker, r: Rank, host: u8) -> Settled
-    ensures { λ out. ⌜ settled out ≡ settle (rank 0) (Record.Start r host) (view b) ⌝ }
+fn end_checked(r: Rank, standing: Status, request: Request, alone: bool, found: Found) -> Verdict
+    ensures { λ v. ⌜ verdictOf v ≡ judged passed (endTests r standing request alone found) ⌝ }
 {
-    let processes = b.processes;
-    let drawn = b.drawn;
-    let p = process_of(processes, r);
-    let standing = p.status;
-    let verdict = start_checked(r, host, standing, drawn_on(drawn, host));
-    match verdict {
-        Verdict::Refused(n) => Settled {
-            broker: b,
-            answer: Answer::Refused(n),
-        },
-        Verdict::Passed => run(b, r, host),
-    }
-}
-
-// Whether `r` has no line.
-fn alone(links: [Link; 256], r: Rank) -> bool
-    ensures { λ out. ⌜ out ≡ everyRank (λ p. isClosed (linkAt links r p .connection)) ⌝ }
-{
-    let mut all = true;
-    let mut i: u8 = 0;
-    while i < Broker::RANKS {
-        let link = link_between(links, r, Rank(i));
-        let line = link.connection;
-        all = both(all, line.is_closed());
-        i += 1;
-    }
-    all
-}
-
-fn none_left(unread: usize) -> bool
-    ensures { λ b. ⌜ b ≡ eqb unread 0 ⌝ }
-{
-    unread == 0
-}
-
-fn end_checked(r: Rank, p: Process, alone: bool, unread: usize) -> Verdict
-    ensures { λ v. ⌜ verdictOf v ≡ judged passed (endTests r p alone unread) ⌝ }
-{
-    let standing = p.status;
-    let request = p.request;
     Verdict::on_one(r, standing)
         .running(standing)
         .unless(!alone, Refusal::Connected)
         .unless(request.is_open(), Refusal::RequestOpen)
-        .unless(!none_left(unread), Refusal::UnreadLeft)
+        .unless(!is_nothing(found), Refusal::UnreadLeft)
+}
+
+pub fn end_verdict(r: Rank, slots: &Slots, contents: &Contents, roster: &Roster) -> Verdict
+    requires { ⌜ Mail (now slots) (now contents) ⌝ }
+    requires { ⌜ Whole (now roster) ⌝ }
+    ensures { λ v. ⌜ Judges (Record.End r) (deskOf (now (slots .entry)) (now (contents .entry)) (now (roster .entry))) v ⌝ }
+{
+    let standing = standing_of(r, roster);
+    let request = request_of(r, roster);
+    let alone = alone(r, roster);
+    let found = first_to(r, slots, contents);
+    end_checked(r, standing, request, alone, found)
 }
 
 // `r` is ended, and keeps its last vmid.
-fn stop(b: Broker, r: Rank) -> Settled
-    ensures { λ out. ⌜ settled out ≡ accepted (end r (view b)) ⌝ }
+pub fn end(r: Rank, roster: &mut Roster) -> Values
+    requires { ⌜ Whole (now roster) ⌝ }
+    ensures { λ v. ⌜ RosterDoes (end r) (now (roster .entry)) v (now (roster .exit)) ⌝ }
 {
-    let processes = b.processes;
-    let p = process_of(processes, r);
-    let standing = p.status;
+    let standing = standing_of(r, roster);
     let last = standing.endpoint();
-    let ended = set_status(processes, r, Status::Ended(last));
-    let mut next = b;
-    next.processes = ended;
-    Settled {
-        broker: next,
-        answer: Answer::Accepted(0, 0, 0),
-    }
-}
-
-pub fn end(b: Broker, r: Rank) -> Settled
-    ensures { λ out. ⌜ settled out ≡ settle (rank 0) (Record.End r) (view b) ⌝ }
-{
-    let processes = b.processes;
-    let links = b.links;
-    let transit = b.transit;
-    let p = process_of(processes, r);
-    let unread = count(transit, Selection::To(r));
-    let verdict = end_checked(r, p, alone(links, r), unread);
-    match verdict {
-        Verdict::Refused(n) => Settled {
-            broker: b,
-            answer: Answer::Refused(n),
-        },
-        Verdict::Passed => stop(b, r),
-    }
+    set_standing(r, Status::Ended(last), roster);
+    Values(0, 0, 0)
 }

@@ -1,86 +1,73 @@
-// Heed, drain and land: the checks of each in the paper's order, and, where none applies, its change of the state.
+// Heed, drain and land: the checks of each in the paper's order, and what each does where none applies.
 // Paper 01, "The step log", kinds 07 to 09.
+ghost use mathlib.Core.List.{List};
 ghost use mathlib.Core.Path.{_≡_};
-ghost use Rattle.broker.specs.Migrate.{heed, drainFound, land};
-ghost use Rattle.broker.specs.Ranks.{rank};
-ghost use Rattle.broker.specs.State.{view};
-ghost use Rattle.broker.specs.Step.{settle};
+ghost use Prim.Native.Nat.{ℕ, _<_};
+ghost use Rattle.transit.specs.Mail.{Mail};
+ghost use Rattle.transit.specs.Unread.{Unread};
+ghost use Rattle.broker.specs.Migrate.{heed, drain, land};
+ghost use Rattle.broker.specs.State.{withUnread};
 ghost use Rattle.broker.specs.declared.record.Record.{Record};
-ghost use Rattle.checks.specs.Settled.{settled, accepted};
+ghost use Rattle.roster.specs.Roster.{ranksOf, Whole};
+ghost use Rattle.checks.specs.Desk.{deskOf, Desk, DeskDoes, Judges};
 ghost use Rattle.checks.specs.Verdict.{verdictOf, passed, judged};
 ghost use Rattle.migrate.specs.Tests.{migratingTests, heedTests, drainTests, landTests};
-use broker::answer::Answer;
 use broker::answer::Refusal;
+use broker::answer::Values;
 use broker::link::Backlog;
 use broker::link::Connection;
 use broker::process::Status;
-use broker::state::Broker;
-use checks::Settled;
-use checks::backlog::awaiting;
-use checks::backlog::awaits;
-use checks::read::both;
-use checks::read::link_between;
-use checks::read::process_of;
+use checks::names::both;
 use checks::unread::is_nothing;
-use checks::unread::unread;
 use checks::verdict::Verdict;
-use checks::write::connect;
-use checks::write::set_status;
+use roster::Roster;
+use roster::awaits::awaits;
+use roster::read::link_between;
+use roster::read::standing_of;
+use roster::write::awaiting;
+use roster::write::connect;
+use roster::write::set_standing;
+use transit::Contents;
 use transit::Found;
 use transit::Place;
 use transit::Rank;
-use transit::Selection;
-use transit::find::first;
-use transit::relabel::relabel;
+use transit::Slots;
+use transit::count::count_to;
+use transit::find::first_at;
+use transit::relabel::relabel_between;
 use transit::relabel::relabel_first;
+use transit::relabel::relabel_to;
 
-fn heed_checked(c: Rank, r: Rank, peer: Status, mover: Status, line: Connection) -> Verdict
-    ensures { λ v. ⌜ verdictOf v ≡ judged passed (heedTests c r peer mover line) ⌝ }
+fn heed_checked(b: Rank, r: Rank, peer: Status, mover: Status, line: Connection) -> Verdict
+    ensures { λ v. ⌜ verdictOf v ≡ judged passed (heedTests b r peer mover line) ⌝ }
 {
-    Verdict::on_two(c, r, peer, mover)
+    Verdict::on_two(b, r, peer, mover)
         .unless(peer.is_ended(), Refusal::HasEnded)
         .unless(!line.is_closing(), Refusal::NoNotice)
 }
 
-// `c` reads what is on its channel from `r`, and closes its side with an end marker.
-fn close_side(b: Broker, c: Rank, r: Rank) -> Settled
-    ensures { λ out. ⌜ settled out ≡ accepted (heed c r (view b)) ⌝ }
+pub fn heed_verdict(b: Rank, r: Rank, roster: &Roster) -> Verdict
+    requires { ⌜ Whole (now roster) ⌝ }
+    ensures { λ v. ⌜ ((u : Unread) → Judges (Record.Heed b r) (withUnread u (ranksOf (now (roster .entry)))) v) ⌝ }
 {
-    let links = b.links;
-    let transit = b.transit;
-    let channel = Selection::BetweenAt(r, c, Place::Channel);
-    let listed = relabel(transit, channel, Place::List);
-    let moved = unread(transit, channel);
-    let closed = connect(links, c, r, Connection::Closed);
-    let marked = awaiting(closed, r, c, Backlog::Marked);
-    let mut next = b;
-    next.transit = listed;
-    next.links = marked;
-    Settled {
-        broker: next,
-        answer: Answer::Accepted(moved, 0, 0),
-    }
+    let peer = standing_of(b, roster);
+    let mover = standing_of(r, roster);
+    let link = link_between(b, r, roster);
+    let line = link.connection;
+    heed_checked(b, r, peer, mover, line)
 }
 
-pub fn heed(b: Broker, c: Rank, r: Rank) -> Settled
-    ensures { λ out. ⌜ settled out ≡ settle (rank 0) (Record.Heed c r) (view b) ⌝ }
+// `b` reads what is on its channel from `r`, and closes its side with an end marker.
+pub fn heed(b: Rank, r: Rank, slots: &mut Slots, roster: &mut Roster) -> Values
+    requires { ⌜ Whole (now roster) ⌝ }
+    requires { ⌜ (b .0 < 16) × (r .0 < 16) ⌝ }
+    ensures { λ v. ⌜ ((contents : List ℕ) → Mail (now (slots .entry)) contents → DeskDoes (heed b r) (now (slots .entry)) contents
+        (now (roster .entry)) v (now (slots .exit)) contents (now (roster .exit))) ⌝ }
 {
-    let processes = b.processes;
-    let links = b.links;
-    let p = process_of(processes, c);
-    let q = process_of(processes, r);
-    let peer = p.status;
-    let mover = q.status;
-    let link = link_between(links, c, r);
-    let line = link.connection;
-    let verdict = heed_checked(c, r, peer, mover, line);
-    match verdict {
-        Verdict::Refused(n) => Settled {
-            broker: b,
-            answer: Answer::Refused(n),
-        },
-        Verdict::Passed => close_side(b, c, r),
-    }
+    let moved = relabel_between(r, b, Place::Channel, Place::List, slots);
+    connect(b, r, Connection::Closed, roster);
+    awaiting(r, b, Backlog::Marked, roster);
+    Values(moved as u32, 0, 0)
 }
 
 // The verdict so far, and that the rank, which is started, migrates.
@@ -108,54 +95,47 @@ fn drain_checked(
         .unless(nothing, Refusal::NothingToDrain)
 }
 
-// `r`'s source process reads what stands first on its channel from `p`: a message, or the end marker.
-fn read_channel(b: Broker, r: Rank, p: Rank, found: Found) -> Settled
-    ensures { λ out. ⌜ settled out ≡ accepted (drainFound r p (view b) found) ⌝ }
+pub fn drain_verdict(
+    r: Rank,
+    p: Rank,
+    slots: &Slots,
+    contents: &Contents,
+    roster: &Roster,
+) -> Verdict
+    requires { ⌜ Desk (now slots) (now contents) (now roster) ⌝ }
+    ensures { λ v. ⌜ Judges (Record.Drain r p) (deskOf (now (slots .entry)) (now (contents .entry)) (now (roster .entry))) v ⌝ }
 {
-    let mut next = b;
-    match found {
-        Found::First(m) => {
-            let transit = b.transit;
-            let channel = Selection::BetweenAt(p, r, Place::SourceChannel);
-            let listed = relabel_first(transit, channel, Place::SourceList);
-            next.transit = listed;
-            Settled {
-                broker: next,
-                answer: Answer::Accepted(0, m.value, 0),
-            }
-        }
-        Found::Nothing => {
-            let links = b.links;
-            let clear = awaiting(links, r, p, Backlog::Clear);
-            next.links = clear;
-            Settled {
-                broker: next,
-                answer: Answer::Accepted(1, 0, 0),
-            }
-        }
-    }
+    let mover = standing_of(r, roster);
+    let peer = standing_of(p, roster);
+    let link = link_between(r, p, roster);
+    let awaited = link.backlog;
+    let found = first_at(p, r, Place::SourceChannel, slots, contents);
+    drain_checked(r, p, mover, peer, awaited, found)
 }
 
-pub fn drain(b: Broker, r: Rank, p: Rank) -> Settled
-    ensures { λ out. ⌜ settled out ≡ settle (rank 0) (Record.Drain r p) (view b) ⌝ }
+// `r`'s source process reads what stands first on its channel from `p`: a message, or the end marker.
+pub fn drain(
+    r: Rank,
+    p: Rank,
+    slots: &mut Slots,
+    contents: &Contents,
+    roster: &mut Roster,
+) -> Values
+    requires { ⌜ Desk (now slots) (now contents) (now roster) ⌝ }
+    requires { ⌜ (r .0 < 16) × (p .0 < 16) ⌝ }
+    ensures { λ v. ⌜ DeskDoes (drain r p) (now (slots .entry)) (now (contents .entry)) (now (roster .entry)) v (now (slots .exit))
+        (now (contents .entry)) (now (roster .exit)) ⌝ }
 {
-    let processes = b.processes;
-    let links = b.links;
-    let transit = b.transit;
-    let source = process_of(processes, r);
-    let other = process_of(processes, p);
-    let mover = source.status;
-    let peer = other.status;
-    let link = link_between(links, r, p);
-    let awaited = link.backlog;
-    let found = first(transit, Selection::BetweenAt(p, r, Place::SourceChannel));
-    let verdict = drain_checked(r, p, mover, peer, awaited, found);
-    match verdict {
-        Verdict::Refused(n) => Settled {
-            broker: b,
-            answer: Answer::Refused(n),
-        },
-        Verdict::Passed => read_channel(b, r, p, found),
+    let found = first_at(p, r, Place::SourceChannel, slots, contents);
+    match found {
+        Found::First(m) => {
+            relabel_first(p, r, Place::SourceChannel, Place::SourceList, slots);
+            Values(0, m.value, 0)
+        }
+        Found::Nothing => {
+            awaiting(r, p, Backlog::Clear, roster);
+            Values(1, 0, 0)
+        }
     }
 }
 
@@ -165,40 +145,26 @@ fn land_checked(r: Rank, standing: Status, awaited: u32) -> Verdict
     migrating(Verdict::on_one(r, standing), standing).unless(awaited != 0, Refusal::BacklogLeft)
 }
 
-// `r`'s target process runs, and has what the source process had read.
-fn arrive(b: Broker, r: Rank) -> Settled
-    ensures { λ out. ⌜ settled out ≡ accepted (land r (view b)) ⌝ }
+pub fn land_verdict(r: Rank, roster: &Roster) -> Verdict
+    requires { ⌜ Whole (now roster) ⌝ }
+    ensures { λ v. ⌜ ((u : Unread) → Judges (Record.Land r) (withUnread u (ranksOf (now (roster .entry)))) v) ⌝ }
 {
-    let processes = b.processes;
-    let transit = b.transit;
-    let p = process_of(processes, r);
-    let standing = p.status;
-    let target = standing.endpoint();
-    let running = set_status(processes, r, Status::Running(target));
-    let listed = relabel(transit, Selection::ToAt(r, Place::SourceList), Place::List);
-    let n = unread(listed, Selection::ToAt(r, Place::List));
-    let mut next = b;
-    next.transit = listed;
-    next.processes = running;
-    Settled {
-        broker: next,
-        answer: Answer::Accepted(n, 0, 0),
-    }
+    let standing = standing_of(r, roster);
+    let awaited = awaits(r, roster);
+    land_checked(r, standing, awaited)
 }
 
-pub fn land(b: Broker, r: Rank) -> Settled
-    ensures { λ out. ⌜ settled out ≡ settle (rank 0) (Record.Land r) (view b) ⌝ }
+// `r`'s target process runs, and has what the source process had read.
+pub fn land(r: Rank, slots: &mut Slots, roster: &mut Roster) -> Values
+    requires { ⌜ Whole (now roster) ⌝ }
+    requires { ⌜ r .0 < 16 ⌝ }
+    ensures { λ v. ⌜ ((contents : List ℕ) → Mail (now (slots .entry)) contents → DeskDoes (land r) (now (slots .entry)) contents
+        (now (roster .entry)) v (now (slots .exit)) contents (now (roster .exit))) ⌝ }
 {
-    let processes = b.processes;
-    let links = b.links;
-    let p = process_of(processes, r);
-    let standing = p.status;
-    let verdict = land_checked(r, standing, awaits(links, r));
-    match verdict {
-        Verdict::Refused(n) => Settled {
-            broker: b,
-            answer: Answer::Refused(n),
-        },
-        Verdict::Passed => arrive(b, r),
-    }
+    let standing = standing_of(r, roster);
+    let target = standing.endpoint();
+    let moved = relabel_to(r, Place::SourceList, Place::List, slots);
+    set_standing(r, Status::Running(target), roster);
+    let listed = count_to(r, Place::List, slots);
+    Values(listed as u32, 0, 0)
 }

@@ -1,4 +1,4 @@
--- `connect::connect_both` meets its contract: one line after the other. Assumes nothing.
+-- `connect::connect_both` meets its contract: one line, and then the other. Assumes nothing.
 use borrow.Author.Needs.{needs}
 use Rattle.connect.proofs.connect_both.Statement.{statement}
 use Rattle.connect.proofs.connect_both.Tie as tie
@@ -10,7 +10,8 @@ connect-requires-2 : tie.Need-connect-requires-2
 connect-requires-2 c κs = search needs
 
 returns : tie.Need-returns
-returns c = rw (c .connect2 .ensures, c .before .connect .ensures)
+returns c =
+    record { long = c .connect2 .ensures .long; same = rw (c .connect2 .ensures .same, c .before .before .connect .ensures .same) }
 
 pub connect-both-spec : {M : Type 1} → statement M
 connect-both-spec = tie.close (tie.spec connect-requires connect-requires-2 returns)

@@ -1,81 +1,105 @@
--- `connect::route` meets its contract: the checks give the refusal of the definition, and where none applies the call is led on.
--- Assumes nothing.
-use mathlib.Core.Path.{_≡_, _∙_}
+-- `connect::route` meets its contract: each way on is its case. Assumes nothing.
+use mathlib.Core.Path.{_≡_, sym, _∙_}
 use borrow.Author.Needs.{needs}
-use Rattle.broker.specs.Checks.{refusal}
-use Rattle.broker.specs.Laws.Accepted.{route-fits}
-use Rattle.broker.specs.Ranks.{rank}
-use Rattle.broker.specs.State.{State, view}
-use Rattle.broker.specs.Step.{apply}
-use Rattle.broker.specs.declared.record.Record.the-variants.{Route}
-use Rattle.broker.specs.declared.record.Record.{Record}
-use Rattle.checks.specs.Laws.Settled.{refused-by, accepted-by, passes-by}
-use Rattle.checks.specs.Verdict.{verdictOf}
-use Rattle.connect.specs.Laws.Judged.{by-tests}
+use Rattle.transit.specs.Unread.{Unread}
+use Rattle.broker.specs.State.{withUnread}
+use Rattle.roster.specs.Roster.{ranksOf}
+use Rattle.connect.specs.Laws.Routed.{Found, route-ended, route-arrives, route-goes-on}
 use Rattle.connect.proofs.route.Statement.{statement}
 use Rattle.connect.proofs.route.Tie as tie
 
--- the state lent, and the record
-abbrev lent : tie.After-route-checked → State
-lent c = view (c .before .before .before .before .args .b)
+-- what the reads found, whatever is unread
+found :
+    (c : tie.After-endpoint) (u : Unread) →
+    let read = c .before .before .before .before in
+    let args = read .before .before .args in
+    Found (args .a) (args .b) (withUnread u (ranksOf (args .roster .now))) (read .request-of .result) (c .before .posted-to .result)
+    (c .before .before .standing-of .result) (c .endpoint .result)
+found c u =
+    record {
+      calls = c .before .before .before .before .request-of .ensures;
+      posts = c .before .posted-to .ensures;
+      stands = c .before .before .standing-of .ensures;
+      ends = c .endpoint .ensures;
+    }
 
-abbrev record-of : tie.After-route-checked → Record
-record-of c =
-    let args = c .before .before .before .before .args in
-    Route (args .a) (args .c)
+request-of-requires : tie.Need-request-of-requires
+request-of-requires c κs = search needs
 
--- The verdict is the refusal of the definition.
-checked : (c : tie.After-route-checked) → verdictOf (c .route-checked .result) ≡ refusal (lent c) (record-of c)
-checked c =
-    let args = c .before .before .before .before .args in
-    rw (
-      by-tests (lent c) .route (args .a) (args .c),
-      c .route-checked .ensures,
-      c .before .process-of2 .ensures,
-      c .before .before .process-of .ensures,
-    )
+standing-of-requires : tie.Need-standing-of-requires
+standing-of-requires c κs = search needs
 
-process-of-requires : tie.Need-process-of-requires
-process-of-requires c κs = search needs
+posted-to-requires : tie.Need-posted-to-requires
+posted-to-requires c κs = search needs
 
-process-of-requires-2 : tie.Need-process-of-requires-2
-process-of-requires-2 c κs = search needs
+endpoint-requires : tie.Need-endpoint-requires
+endpoint-requires c κs = search needs
 
-route-checked-requires : tie.Need-route-checked-requires
-route-checked-requires c κs = search needs
+is-ended-requires : tie.Need-is-ended-requires
+is-ended-requires c κs = search needs
 
-enum-known-verdict : tie.Need-enum-known-verdict
-enum-known-verdict c = search needs
-
-enum-told : tie.Need-enum-told
-enum-told c = search needs
-
-lead-requires : tie.Need-lead-requires
-lead-requires c κs =
-    let v = c .before .before in
-    let two = route-fits (lent v) _ _ (passes-by (record-of v) (lent v) _ (checked v) (c .enum-told .given .1)) .two in
-    (two .first, two .second)
+set-request-requires : tie.Need-set-request-requires
+set-request-requires c κs = search needs
 
 returns : tie.Need-returns
 returns c =
-    let v = c .before .before .before in
-    refused-by (record-of v) (lent v) _ (checked v) (rank 0) _ (c .before .verdict .given .1)
+    let test = c .before .before in
+    let ended = test .before in
+    record {
+      long = c .set-request .ensures .long;
+      does = λ u.
+          rw (c .set-request .ensures .same)
+          (route-ended (found (ended .before) u) (sym (ended .is-ended .ensures) ∙ test .if1 .taken));
+    }
+
+same-requires : tie.Need-same-requires
+same-requires c κs = search needs
+
+route-there-requires : tie.Need-route-there-requires
+route-there-requires c κs = search needs
 
 returns-2 : tie.Need-returns-2
-unfolding apply
 returns-2 c =
-    let v = c .before .before .before in
-    c .lead .ensures ∙ accepted-by (record-of v) (lent v) _ (checked v) (rank 0) (c .before .enum-told .given .1)
+    let test = c .before .before in
+    let there = test .before in
+    let ended = there .before .before in
+    record {
+      long = c .route-there .ensures .long;
+      does = λ u.
+          c .route-there .ensures .does u ∙
+          route-arrives (found (ended .before) u) (sym (ended .is-ended .ensures) ∙ there .before .if1 .left)
+          (sym (there .same .ensures) ∙ test .if2 .taken);
+    }
+
+route-on-requires : tie.Need-route-on-requires
+route-on-requires c κs = search needs
+
+returns-3 : tie.Need-returns-3
+returns-3 c =
+    let test = c .before .before in
+    let there = test .before in
+    let ended = there .before .before in
+    record {
+      long = c .route-on .ensures .long;
+      does = λ u.
+          c .route-on .ensures .does u ∙
+          route-goes-on (found (ended .before) u) (sym (ended .is-ended .ensures) ∙ there .before .if1 .left)
+          (sym (there .same .ensures) ∙ test .if2 .left);
+    }
 
 pub route-spec : {M : Type 1} → statement M
 route-spec =
     tie.close
     (tie.spec
-    process-of-requires
-    process-of-requires-2
-    route-checked-requires
-    enum-known-verdict
-    enum-told
-    lead-requires
+    request-of-requires
+    standing-of-requires
+    posted-to-requires
+    endpoint-requires
+    is-ended-requires
+    set-request-requires
     returns
-    returns-2)
+    same-requires
+    route-there-requires
+    returns-2
+    route-on-requires
+    returns-3)

@@ -1,9 +1,7 @@
--- `connect::route_there` meets its contract: the calls that close change the processes alone. Assumes nothing.
+-- `connect::route_there` meets its contract: both lines, and then the calls of both. Assumes nothing.
 use borrow.Author.Needs.{needs}
-use Rattle.broker.specs.Connect.{connectBoth}
-use Rattle.broker.specs.State.{view}
-use Rattle.broker.specs.declared.link.Connection.the-variants.{Open}
-use Rattle.connect.specs.Laws.Parts.{withdraw-both}
+use Rattle.roster.specs.Roster.{ranksOf}
+use Rattle.connect.specs.Laws.Withdrawn.{routed-there}
 use Rattle.connect.proofs.route_there.Statement.{statement}
 use Rattle.connect.proofs.route_there.Tie as tie
 
@@ -16,23 +14,24 @@ withdraw-requires c κs = search needs
 withdraw-requires-2 : tie.Need-withdraw-requires-2
 withdraw-requires-2 c κs = search needs
 
-cast-t12 : tie.Need-cast-t12
-cast-t12 c = search needs
+cast-t10 : tie.Need-cast-t10
+cast-t10 c = search needs
 
-cast-t13 : tie.Need-cast-t13
-cast-t13 c = search needs
+cast-t11 : tie.Need-cast-t11
+cast-t11 c = search needs
 
 returns : tie.Need-returns
 returns c =
     let crossed = c .before .before in
-    let joined = crossed .before .before in
-    let args = joined .before .before .before .args in
-    rw (
-      withdraw-both (args .a) (args .c) (connectBoth (args .a) (args .c) Open (view (args .b))),
-      crossed .withdraw2 .ensures,
-      crossed .before .withdraw .ensures,
-      joined .connect-both .ensures,
-    )
+    let answered = crossed .before .before in
+    let joined = answered .before .before in
+    let args = joined .before .before .args in
+    record {
+      long = crossed .withdraw2 .ensures .long;
+      does = λ u.
+          routed-there (args .a) (args .b) (args .end) u (ranksOf (args .roster .now))
+          (joined .connect-both .ensures .same) (answered .withdraw .ensures .same) (crossed .withdraw2 .ensures .same);
+    }
 
 pub route-there-spec : {M : Type 1} → statement M
 route-there-spec =
@@ -41,6 +40,6 @@ route-there-spec =
     connect-both-requires
     withdraw-requires
     withdraw-requires-2
-    cast-t12
-    cast-t13
+    cast-t10
+    cast-t11
     returns)

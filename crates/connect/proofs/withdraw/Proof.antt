@@ -1,10 +1,22 @@
--- `connect::withdraw` meets its contract: each way is that of the definition. Assumes nothing.
+-- `connect::withdraw` meets its contract: the call closes where it asks for the rank. Assumes nothing.
+use mathlib.Core.Bool.{true, false}
+use mathlib.Core.Path.{_≡_, sym, _∙_}
 use borrow.Author.Needs.{needs}
+use Rattle.broker.specs.Names.{asksFor}
+use Rattle.broker.specs.State.{request}
+use Rattle.roster.specs.Roster.{ranksOf}
 use Rattle.connect.proofs.withdraw.Statement.{statement}
 use Rattle.connect.proofs.withdraw.Tie as tie
 
-process-of-requires : tie.Need-process-of-requires
-process-of-requires c κs = search needs
+-- the test is the definition's
+asks :
+    (c : tie.After-asks-for) →
+    let args = c .before .before .before .args in
+    asksFor (args .b) (request (ranksOf (args .roster .now)) (args .a)) ≡ c .asks-for .result
+asks c = rw (c .asks-for .ensures, c .before .request-of .ensures)
+
+request-of-requires : tie.Need-request-of-requires
+request-of-requires c κs = search needs
 
 asks-for-requires : tie.Need-asks-for-requires
 asks-for-requires c κs = search needs
@@ -14,15 +26,16 @@ set-request-requires c κs = search needs
 
 returns : tie.Need-returns
 returns c =
-    let asked = c .before .before in
-    rw (c .set-request .ensures, ← asked .before .process-of .ensures, ← asked .asks-for .ensures, c .before .if1 .taken)
+    let test = c .before .before in
+    let is : c .before .before .before .asks-for .result ≡ true = test .if1 .taken in
+    record { long = c .set-request .ensures .long; same = rw (asks (test .before), is) (c .set-request .ensures .same) }
 
 returns-2 : tie.Need-returns-2
 returns-2 c =
-    let asked = c .before in
-    rw (← asked .before .process-of .ensures, ← asked .asks-for .ensures, c .if1 .left)
+    let is : c .before .asks-for .result ≡ false = c .if1 .left in
+    record { long = c .before .before .before .before .pre; same = rw (asks (c .before), is) }
 
 pub withdraw-spec : {M : Type 1} → statement M
 withdraw-spec =
     tie.close
-    (tie.spec process-of-requires asks-for-requires set-request-requires returns returns-2)
+    (tie.spec request-of-requires asks-for-requires set-request-requires returns returns-2)

@@ -1,81 +1,76 @@
--- `depart::move_to` meets its contract: the checks give the refusal of the definition, and where none applies the rank migrates.
+-- `depart::move_to` meets its contract: a number is drawn, the rank migrates, its messages stay behind and its lines are left.
 -- Assumes nothing.
-use mathlib.Core.Path.{_≡_, _∙_}
+use mathlib.Core.Path.{ap, _∙_}
 use borrow.Author.Needs.{needs}
-use Rattle.broker.specs.Checks.{refusal}
-use Rattle.broker.specs.Laws.Accepted.{move-fits}
-use Rattle.broker.specs.Ranks.{rank}
-use Rattle.broker.specs.State.{State, view}
-use Rattle.broker.specs.Step.{apply}
-use Rattle.broker.specs.declared.record.Record.{Record}
-use Rattle.broker.specs.declared.record.Record.the-variants.{Move}
-use Rattle.checks.specs.Laws.Settled.{refused-by, accepted-by, passes-by}
-use Rattle.checks.specs.Verdict.{verdictOf}
-use Rattle.depart.specs.Laws.Judged.{by-tests}
+use Rattle.transit.specs.Mail.{unreadIn}
+use Rattle.broker.specs.Names.{endpoint}
+use Rattle.roster.specs.Roster.{ranksOf}
+use Rattle.depart.specs.Laws.Done.{move-done}
 use Rattle.depart.proofs.move_to.Statement.{statement}
 use Rattle.depart.proofs.move_to.Tie as tie
-
--- the state lent, and the record
-abbrev lent : tie.After-move-checked → State
-lent c = view (c .before .before .before .before .before .args .b)
-
-abbrev record-of : tie.After-move-checked → Record
-record-of c =
-    let args = c .before .before .before .before .before .args in
-    Move (args .r) (args .host)
-
--- The verdict is the refusal of the definition.
-checked : (c : tie.After-move-checked) → verdictOf (c .move-checked .result) ≡ refusal (lent c) (record-of c)
-checked c =
-    let args = c .before .before .before .before .before .args in
-    rw (
-      by-tests (lent c) (args .r) (args .host),
-      c .move-checked .ensures,
-      c .before .drawn-on .ensures,
-      c .before .before .process-of .ensures,
-    )
-
-process-of-requires : tie.Need-process-of-requires
-process-of-requires c κs = search needs
 
 drawn-on-requires : tie.Need-drawn-on-requires
 drawn-on-requires c κs = search needs
 
-move-checked-requires : tie.Need-move-checked-requires
-move-checked-requires c κs = search needs
+add-number : tie.Need-add-number
+add-number c = search needs
 
-enum-known-verdict : tie.Need-enum-known-verdict
-enum-known-verdict c = search needs
+standing-of-requires : tie.Need-standing-of-requires
+standing-of-requires c κs = search needs
 
-enum-told : tie.Need-enum-told
-enum-told c = search needs
+endpoint-requires : tie.Need-endpoint-requires
+endpoint-requires c κs = search needs
 
-depart-requires : tie.Need-depart-requires
-depart-requires c κs =
-    let v = c .before .before in
-    let fits = move-fits (lent v) _ _ (passes-by (record-of v) (lent v) _ (checked v) (c .enum-told .given .1)) in
-    (fits .room, fits .host)
+set-drawn-requires : tie.Need-set-drawn-requires
+set-drawn-requires c κs = search needs
+
+set-standing-requires : tie.Need-set-standing-requires
+set-standing-requires c κs = search needs
+
+leave-behind-requires : tie.Need-leave-behind-requires
+leave-behind-requires c κs = search needs
+
+leave-all-requires : tie.Need-leave-all-requires
+leave-all-requires c κs = search needs
+
+awaits-requires : tie.Need-awaits-requires
+awaits-requires c κs = search needs
+
+cast-t21 : tie.Need-cast-t21
+cast-t21 c = search needs
 
 returns : tie.Need-returns
-returns c =
-    let v = c .before .before .before in
-    refused-by (record-of v) (lent v) _ (checked v) (rank 0) _ (c .before .verdict .given .1)
-
-returns-2 : tie.Need-returns-2
-unfolding apply
-returns-2 c =
-    let v = c .before .before .before in
-    c .depart .ensures ∙ accepted-by (record-of v) (lent v) _ (checked v) (rank 0) (c .before .enum-told .given .1)
+returns c = λ contents m.
+    let left = c .before .before in
+    let behind = left .before .before in
+    let moved = behind .before .before in
+    let drawn = moved .before .before in
+    let source = drawn .before .before in
+    let stood = source .before in
+    let number = stood .before .before in
+    let args = number .before .before .args in
+    let from = source .endpoint .ensures ∙ ap endpoint (stood .standing-of .ensures) in
+    let stays = behind .leave-behind .ensures contents m in
+    record {
+      kept = record { mail = stays .kept; long = left .leave-all .ensures .long };
+      does = λ ok.
+          move-done (args .r) (args .host) (ranksOf (args .roster .now)) (unreadIn (args .slots .now) contents)
+          (number .drawn-on .ensures) from (drawn .set-drawn .ensures .same) (moved .set-standing .ensures .same)
+          (left .leave-all .ensures .same) (c .awaits .ensures) (stays .same);
+    }
 
 pub move-to-spec : {M : Type 1} → statement M
 move-to-spec =
     tie.close
     (tie.spec
-    process-of-requires
     drawn-on-requires
-    move-checked-requires
-    enum-known-verdict
-    enum-told
-    depart-requires
-    returns
-    returns-2)
+    add-number
+    standing-of-requires
+    endpoint-requires
+    set-drawn-requires
+    set-standing-requires
+    leave-behind-requires
+    leave-all-requires
+    awaits-requires
+    cast-t21
+    returns)

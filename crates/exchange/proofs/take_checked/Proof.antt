@@ -9,18 +9,11 @@ on-two-requires c κs = search needs
 running-requires : tie.Need-running-requires
 running-requires c κs = search needs
 
-is-nothing-requires : tie.Need-is-nothing-requires
-is-nothing-requires c κs = search needs
-
 unless-requires : tie.Need-unless-requires
 unless-requires c κs = search needs
 
 returns : tie.Need-returns
-returns c =
-    let found = c .before in
-    rw (c .unless .ensures, found .is-nothing .ensures, found .before .running .ensures, found .before .before .on-two .ensures)
+returns c = rw (c .unless .ensures, c .before .running .ensures, c .before .before .on-two .ensures)
 
 pub take-checked-spec : {M : Type 1} → statement M
-take-checked-spec =
-    tie.close
-    (tie.spec on-two-requires running-requires is-nothing-requires unless-requires returns)
+take-checked-spec = tie.close (tie.spec on-two-requires running-requires unless-requires returns)

@@ -18,8 +18,8 @@ is-open-requires c κs = search needs
 unless-requires-2 : tie.Need-unless-requires-2
 unless-requires-2 c κs = search needs
 
-none-left-requires : tie.Need-none-left-requires
-none-left-requires c κs = search needs
+is-nothing-requires : tie.Need-is-nothing-requires
+is-nothing-requires c κs = search needs
 
 unless-requires-3 : tie.Need-unless-requires-3
 unless-requires-3 c κs = search needs
@@ -31,7 +31,7 @@ returns c =
     let standing = request .before .before in
     rw (
       c .unless3 .ensures,
-      unread .none-left .ensures,
+      unread .is-nothing .ensures,
       unread .before .unless2 .ensures,
       request .is-open .ensures,
       request .before .unless .ensures,
@@ -48,6 +48,6 @@ end-checked-spec =
     unless-requires
     is-open-requires
     unless-requires-2
-    none-left-requires
+    is-nothing-requires
     unless-requires-3
     returns)

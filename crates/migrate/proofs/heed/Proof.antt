@@ -1,82 +1,35 @@
--- `migrate::heed` meets its contract: the checks give the refusal of the definition, and where none applies the side is closed.
--- Assumes nothing.
-use mathlib.Core.Path.{_≡_, _∙_}
+-- `migrate::heed` meets its contract: the channel is read, the line closes, and the mover's await is marked. Assumes nothing.
 use borrow.Author.Needs.{needs}
-use Rattle.broker.specs.Checks.{refusal}
-use Rattle.broker.specs.Ranks.{rank}
-use Rattle.broker.specs.State.{State, view}
-use Rattle.broker.specs.Step.{apply}
-use Rattle.broker.specs.declared.record.Record.{Record}
-use Rattle.broker.specs.declared.record.Record.the-variants.{Heed}
-use Rattle.checks.specs.Laws.Settled.{refused-by, accepted-by}
-use Rattle.checks.specs.Verdict.{verdictOf}
-use Rattle.migrate.specs.Laws.Judged.{by-tests}
+use Rattle.roster.specs.Roster.{ranksOf}
+use Rattle.migrate.specs.Laws.Done.{heed-done}
 use Rattle.migrate.proofs.heed.Statement.{statement}
 use Rattle.migrate.proofs.heed.Tie as tie
 
--- the state lent, and the record
-abbrev lent : tie.After-heed-checked → State
-lent c = view (c .before .before .before .before .before .before .args .b)
+relabel-between-requires : tie.Need-relabel-between-requires
+relabel-between-requires c κs = search needs
 
-abbrev record-of : tie.After-heed-checked → Record
-record-of c =
-    let args = c .before .before .before .before .before .before .args in
-    Heed (args .c) (args .r)
+connect-requires : tie.Need-connect-requires
+connect-requires c κs = search needs
 
--- The verdict is the refusal of the definition.
-checked : (c : tie.After-heed-checked) → verdictOf (c .heed-checked .result) ≡ refusal (lent c) (record-of c)
-checked c =
-    let args = c .before .before .before .before .before .before .args in
-    rw (
-      by-tests (lent c) .heed (args .c) (args .r),
-      c .heed-checked .ensures,
-      c .before .link-between .ensures,
-      c .before .before .process-of2 .ensures,
-      c .before .before .before .process-of .ensures,
-    )
+awaiting-requires : tie.Need-awaiting-requires
+awaiting-requires c κs = search needs
 
-process-of-requires : tie.Need-process-of-requires
-process-of-requires c κs = search needs
-
-process-of-requires-2 : tie.Need-process-of-requires-2
-process-of-requires-2 c κs = search needs
-
-link-between-requires : tie.Need-link-between-requires
-link-between-requires c κs = search needs
-
-heed-checked-requires : tie.Need-heed-checked-requires
-heed-checked-requires c κs = search needs
-
-enum-known-verdict : tie.Need-enum-known-verdict
-enum-known-verdict c = search needs
-
-enum-told : tie.Need-enum-told
-enum-told c = search needs
-
-close-side-requires : tie.Need-close-side-requires
-close-side-requires c κs = search needs
+cast-t14 : tie.Need-cast-t14
+cast-t14 c = search needs
 
 returns : tie.Need-returns
-returns c =
-    let v = c .before .before .before in
-    refused-by (record-of v) (lent v) _ (checked v) (rank 0) _ (c .before .verdict .given .1)
-
-returns-2 : tie.Need-returns-2
-unfolding apply
-returns-2 c =
-    let v = c .before .before .before in
-    c .close-side .ensures ∙ accepted-by (record-of v) (lent v) _ (checked v) (rank 0) (c .before .enum-told .given .1)
+returns c = λ contents m.
+    let closed = c .before .before in
+    let read = closed .before .before in
+    let args = read .before .before .args in
+    let listed = read .relabel-between .ensures contents m in
+    record {
+      kept = record { mail = listed .kept; long = c .awaiting .ensures .long };
+      does = λ ok.
+          heed-done (ranksOf (args .roster .now)) (args .b) (args .r) listed (closed .connect .ensures .same) (c .awaiting .ensures .same);
+    }
 
 pub heed-spec : {M : Type 1} → statement M
 heed-spec =
     tie.close
-    (tie.spec
-    process-of-requires
-    process-of-requires-2
-    link-between-requires
-    heed-checked-requires
-    enum-known-verdict
-    enum-told
-    close-side-requires
-    returns
-    returns-2)
+    (tie.spec relabel-between-requires connect-requires awaiting-requires cast-t14 returns)

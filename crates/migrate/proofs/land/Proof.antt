@@ -1,77 +1,57 @@
--- `migrate::land` meets its contract: the checks give the refusal of the definition, and where none applies the target process runs.
--- Assumes nothing.
-use mathlib.Core.Path.{_≡_, _∙_}
+-- `migrate::land` meets its contract: the arrival has the mover's list, and runs. Assumes nothing.
+use mathlib.Core.Path.{ap, _∙_}
 use borrow.Author.Needs.{needs}
-use Rattle.broker.specs.Checks.{refusal}
-use Rattle.broker.specs.Ranks.{rank}
-use Rattle.broker.specs.State.{State, view}
-use Rattle.broker.specs.Step.{apply}
-use Rattle.broker.specs.declared.record.Record.{Record}
-use Rattle.broker.specs.declared.record.Record.the-variants.{Land}
-use Rattle.checks.specs.Laws.Settled.{refused-by, accepted-by}
-use Rattle.checks.specs.Verdict.{verdictOf}
-use Rattle.migrate.specs.Laws.Judged.{by-tests}
+use Rattle.broker.specs.Names.{endpoint}
+use Rattle.broker.specs.State.{withStatus}
+use Rattle.broker.specs.declared.process.Status.the-variants.{Running}
+use Rattle.broker.specs.declared.process.Status.{Status}
+use Rattle.broker.specs.declared.process.Vmid.{Vmid}
+use Rattle.roster.specs.Roster.{ranksOf}
+use Rattle.migrate.specs.Laws.Done.{land-done}
 use Rattle.migrate.proofs.land.Statement.{statement}
 use Rattle.migrate.proofs.land.Tie as tie
 
--- the state lent, and the record
-abbrev lent : tie.After-land-checked → State
-lent c = view (c .before .before .before .before .before .args .b)
+standing-of-requires : tie.Need-standing-of-requires
+standing-of-requires c κs = search needs
 
-abbrev record-of : tie.After-land-checked → Record
-record-of c =
-    let args = c .before .before .before .before .before .args in
-    Land (args .r)
+endpoint-requires : tie.Need-endpoint-requires
+endpoint-requires c κs = search needs
 
--- The verdict is the refusal of the definition.
-checked : (c : tie.After-land-checked) → verdictOf (c .land-checked .result) ≡ refusal (lent c) (record-of c)
-checked c =
-    let args = c .before .before .before .before .before .args in
-    rw (
-      by-tests (lent c) .land (args .r),
-      c .land-checked .ensures,
-      c .before .awaits .ensures,
-      c .before .before .process-of .ensures,
-    )
+relabel-to-requires : tie.Need-relabel-to-requires
+relabel-to-requires c κs = search needs
 
-process-of-requires : tie.Need-process-of-requires
-process-of-requires c κs = search needs
+set-standing-requires : tie.Need-set-standing-requires
+set-standing-requires c κs = search needs
 
-awaits-requires : tie.Need-awaits-requires
-awaits-requires c κs = search needs
+count-to-requires : tie.Need-count-to-requires
+count-to-requires c κs = search needs
 
-land-checked-requires : tie.Need-land-checked-requires
-land-checked-requires c κs = search needs
-
-enum-known-verdict : tie.Need-enum-known-verdict
-enum-known-verdict c = search needs
-
-enum-told : tie.Need-enum-told
-enum-told c = search needs
-
-arrive-requires : tie.Need-arrive-requires
-arrive-requires c κs = search needs
+cast-t16 : tie.Need-cast-t16
+cast-t16 c = search needs
 
 returns : tie.Need-returns
-returns c =
-    let v = c .before .before .before in
-    refused-by (record-of v) (lent v) _ (checked v) (rank 0) _ (c .before .verdict .given .1)
-
-returns-2 : tie.Need-returns-2
-unfolding apply
-returns-2 c =
-    let v = c .before .before .before in
-    c .arrive .ensures ∙ accepted-by (record-of v) (lent v) _ (checked v) (rank 0) (c .before .enum-told .given .1)
+returns c = λ contents m.
+    let running = c .before .before in
+    let moved = running .before .before in
+    let end = moved .before .before in
+    let args = end .before .before .before .args in
+    let ranks = ranksOf (args .roster .now) in
+    let target = end .endpoint .ensures ∙ ap endpoint (end .before .standing-of .ensures) in
+    let runs = running .set-standing .ensures .same ∙ ap (λ (v : Vmid). withStatus (args .r) (Running v) ranks) target in
+    let listed = moved .relabel-to .ensures contents m in
+    record {
+      kept = record { mail = listed .kept; long = running .set-standing .ensures .long };
+      does = λ ok. land-done ranks (args .r) listed runs (c .count-to .ensures contents (listed .kept));
+    }
 
 pub land-spec : {M : Type 1} → statement M
 land-spec =
     tie.close
     (tie.spec
-    process-of-requires
-    awaits-requires
-    land-checked-requires
-    enum-known-verdict
-    enum-told
-    arrive-requires
-    returns
-    returns-2)
+    standing-of-requires
+    endpoint-requires
+    relabel-to-requires
+    set-standing-requires
+    count-to-requires
+    cast-t16
+    returns)

@@ -6,7 +6,7 @@ use Rattle.transit.specs.Unread.{firstSent}
 use Rattle.transit.specs.declared.Rank.{Rank}
 use Rattle.broker.specs.Checks.{refusal}
 use Rattle.broker.specs.Laws.Opened.{openedChecks}
-use Rattle.broker.specs.Migrate.{onSourceChannel}
+use Rattle.broker.specs.Migrate.{awaitsOf, onSourceChannel}
 use Rattle.broker.specs.Names.{isClear}
 use Rattle.broker.specs.State.{State, status, connection, backlog}
 use Rattle.broker.specs.declared.record.Record.the-variants.{Heed, Drain, Land}
@@ -14,13 +14,15 @@ use Rattle.checks.specs.Laws.Unread.{no-head}
 use Rattle.checks.specs.Laws.Verdict.{judged-first}
 use Rattle.checks.specs.Verdict.{passed, judged}
 use Rattle.checks.specs.Laws.Counts.{every-passes}
-use Rattle.checks.specs.Awaits.{awaitsOf}
 use Rattle.migrate.specs.Tests.{heedTests, drainTests, landTests}
 
 -- each kind's refusal, by its tests at the parts of a state
 pub record Judged (s : State) : Type 0 where
   pub heed : (b r : Rank) → refusal s (Heed b r) ≡ judged passed (heedTests b r (status s b) (status s r) (connection s b r))
-  pub drain : (r p : Rank) → refusal s (Drain r p) ≡ judged passed (drainTests r p (status s r) (status s p) (backlog s r p) (firstSent (onSourceChannel p r) (s .unread)))
+  pub drain :
+      (r p : Rank) →
+      refusal s (Drain r p) ≡
+      judged passed (drainTests r p (status s r) (status s p) (backlog s r p) (firstSent (onSourceChannel p r) (s .unread)))
   pub land : (r : Rank) → refusal s (Land r) ≡ judged passed (landTests r (status s r) (awaitsOf r (s .links)))
 
 pub by-tests : (s : State) → Judged s

@@ -28,17 +28,37 @@ awaiting-requires : tie.Need-awaiting-requires
 awaiting-requires c κs = search needs
 
 returns : tie.Need-returns
-returns c = rw (← c .before .before .link-between .ensures, c .enum-told .given .1)
+returns c =
+    let link = c .before .before in
+    record { long = link .before .before .pre; same = rw (← link .link-between .ensures, c .enum-told .given .1) }
 
 returns-2 : tie.Need-returns-2
 returns-2 c =
-    let arm = c .before .before in
-    rw (← arm .before .before .link-between .ensures, arm .enum-told2 .given .1, c .connect .ensures, c .before .set-link .ensures)
+    let own = c .before .before in
+    let arm = own .before .before in
+    record {
+      long = c .connect .ensures .long;
+      same = rw (
+        ← arm .before .before .link-between .ensures,
+        arm .enum-told2 .given .1,
+        c .connect .ensures .same,
+        own .set-link .ensures .same,
+      );
+    }
 
 returns-3 : tie.Need-returns-3
 returns-3 c =
-    let arm = c .before .before in
-    rw (← arm .before .before .link-between .ensures, arm .enum-told3 .given .1, c .awaiting .ensures, c .before .set-link2 .ensures)
+    let own = c .before .before in
+    let arm = own .before .before in
+    record {
+      long = c .awaiting .ensures .long;
+      same = rw (
+        ← arm .before .before .link-between .ensures,
+        arm .enum-told3 .given .1,
+        c .awaiting .ensures .same,
+        own .set-link2 .ensures .same,
+      );
+    }
 
 pub leave-spec : {M : Type 1} → statement M
 leave-spec =

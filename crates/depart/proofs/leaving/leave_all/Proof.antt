@@ -1,26 +1,29 @@
 -- `depart::leaving::leave_all` meets its contract. The loop's invariant: the ranks below `i` are left, and no other.
 -- Assumes nothing.
-use mathlib.Core.Path.{_≡_}
+use mathlib.Core.Path.{_≡_, refl, ap, _∙_}
 use Prim.Native.Nat.{_≤_, _-_}
 use native.Mathlib.Numerals.{add-one}
 use native.Mathlib.Omega.{arith}
 use borrow.Author.Needs.{needs}
 use Rattle.broker.specs.Migrate.{leave, leaveAll}
 use Rattle.broker.specs.Ranks.{rank, eachBelow, eachRank}
+use Rattle.broker.specs.State.{State, withLinks}
+use Rattle.roster.specs.Roster.{ranksOf, Holds}
 use Rattle.depart.proofs.leaving.leave_all.Statement.{statement}
 use Rattle.depart.proofs.leaving.leave_all.Tie as tie
 
 abbrev Inv-loop : tie.InvT-loop
-Inv-loop r next₀ i₀ next i = (i ≤ 16) × (next ≡ eachBelow i (λ k. leave r (rank k)) next₀)
+Inv-loop r roster₀ i₀ roster i =
+    (i ≤ 16) × Holds roster (withLinks (eachBelow i (λ k. leave r (rank k)) (ranksOf roster₀ .links)) (ranksOf roster₀))
 
 abbrev μ-loop : tie.MeasureT-loop
-μ-loop r next₀ i₀ next i = 16 - i
+μ-loop r roster₀ i₀ roster i = 16 - i
 
 loop-holds : tie.Need-loop-holds Inv-loop μ-loop
-loop-holds c = search needs
+loop-holds c = (omega arith, record { long = c .pre; same = refl })
 
 leave-requires : tie.Need-leave-requires Inv-loop μ-loop
-leave-requires c κs = search needs
+leave-requires c κs = c .before .before .loop .inv .1 .long
 
 add-i : tie.Need-add-i Inv-loop μ-loop
 add-i c = search needs
@@ -29,14 +32,26 @@ loop-less : tie.Need-loop-less Inv-loop μ-loop
 loop-less c = search needs
 
 loop-again : tie.Need-loop-again Inv-loop μ-loop
-loop-again c = (omega arith, rw (c .leave .ensures, c .before .before .loop .inv .1, add-one))
+loop-again c =
+    let head = c .before .before .before in
+    let r = head .before .args .r in
+    let i = head .loop .i in (
+      omega arith,
+      record {
+        long = c .leave .ensures .long;
+        same =
+            rw add-one
+            (c .leave .ensures .same ∙
+            ap (λ (s : State). withLinks (leave r (rank i) (s .links)) s) (head .loop .inv .1 .same));
+      },
+    )
 
 returns : tie.Need-returns Inv-loop μ-loop
 unfolding leaveAll eachRank
 returns c =
     let head = c .before in
     let last : head .loop .i ≡ 16 = omega arith in
-    rw (head .loop .inv .1, last)
+    rw last at (head .loop .inv .1)
 
 pub leave-all-spec : {M : Type 1} → statement M
 leave-all-spec =

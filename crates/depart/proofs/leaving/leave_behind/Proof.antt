@@ -1,20 +1,29 @@
--- `depart::leaving::leave_behind` meets its contract: two changes of places, one after the other. Assumes nothing.
+-- `depart::leaving::leave_behind` meets its contract: the list first, and then the channel. Assumes nothing.
 use mathlib.Core.Path.{ap, _∙_}
 use borrow.Author.Needs.{needs}
+use Rattle.transit.specs.Laws.Promise.{relabelled-unread}
 use Rattle.transit.specs.Unread.{relabelAll}
 use Rattle.transit.specs.declared.Place.the-variants.{SourceChannel, Channel}
 use Rattle.transit.specs.declared.Selection.the-variants.{ToAt}
 use Rattle.depart.proofs.leaving.leave_behind.Statement.{statement}
 use Rattle.depart.proofs.leaving.leave_behind.Tie as tie
 
-relabel-requires : tie.Need-relabel-requires
-relabel-requires c κs = search needs
+relabel-to-requires : tie.Need-relabel-to-requires
+relabel-to-requires c κs = search needs
 
-relabel-requires-2 : tie.Need-relabel-requires-2
-relabel-requires-2 c κs = search needs
+relabel-to-requires-2 : tie.Need-relabel-to-requires-2
+relabel-to-requires-2 c κs = search needs
 
 returns : tie.Need-returns
-returns c = c .relabel2 .ensures ∙ ap (relabelAll (ToAt (c .before .before .args .r) Channel) SourceChannel) (c .before .relabel .ensures)
+returns c = λ contents m.
+    let first = c .before .before in
+    let r = first .before .before .args .r in
+    let listed = first .relabel-to .ensures contents m in
+    let both = c .relabel-to2 .ensures contents (listed .kept) in
+    record {
+      kept = both .kept;
+      same = relabelled-unread both ∙ ap (relabelAll (ToAt r Channel) SourceChannel) (relabelled-unread listed);
+    }
 
 pub leave-behind-spec : {M : Type 1} → statement M
-leave-behind-spec = tie.close (tie.spec relabel-requires relabel-requires-2 returns)
+leave-behind-spec = tie.close (tie.spec relabel-to-requires relabel-to-requires-2 returns)

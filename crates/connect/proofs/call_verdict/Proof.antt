@@ -1,0 +1,46 @@
+-- `connect::call_verdict` meets its contract: the tests at what was read give the refusal of the definition. Assumes nothing.
+use borrow.Author.Needs.{needs}
+use Rattle.broker.specs.State.{withUnread}
+use Rattle.roster.specs.Roster.{ranksOf}
+use Rattle.connect.specs.Laws.Judged.{by-tests}
+use Rattle.connect.proofs.call_verdict.Statement.{statement}
+use Rattle.connect.proofs.call_verdict.Tie as tie
+
+standing-of-requires : tie.Need-standing-of-requires
+standing-of-requires c κs = search needs
+
+standing-of-requires-2 : tie.Need-standing-of-requires-2
+standing-of-requires-2 c κs = search needs
+
+request-of-requires : tie.Need-request-of-requires
+request-of-requires c κs = search needs
+
+link-between-requires : tie.Need-link-between-requires
+link-between-requires c κs = search needs
+
+call-checked-requires : tie.Need-call-checked-requires
+call-checked-requires c κs = search needs
+
+returns : tie.Need-returns
+returns c = λ u.
+    let request = c .before .before in
+    let args = request .before .before .before .args in
+    rw (
+      by-tests (withUnread u (ranksOf (args .roster .now))) .call (args .a) (args .b),
+      c .call-checked .ensures,
+      c .before .link-between .ensures,
+      request .request-of .ensures,
+      request .before .standing-of2 .ensures,
+      request .before .before .standing-of .ensures,
+    )
+
+pub call-verdict-spec : {M : Type 1} → statement M
+call-verdict-spec =
+    tie.close
+    (tie.spec
+    standing-of-requires
+    standing-of-requires-2
+    request-of-requires
+    link-between-requires
+    call-checked-requires
+    returns)

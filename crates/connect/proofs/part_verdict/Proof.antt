@@ -1,0 +1,41 @@
+-- `connect::part_verdict` meets its contract: the tests at what was read give the refusal of the definition. Assumes nothing.
+use borrow.Author.Needs.{needs}
+use Rattle.broker.specs.State.{withUnread}
+use Rattle.roster.specs.Roster.{ranksOf}
+use Rattle.connect.specs.Laws.Judged.{by-tests}
+use Rattle.connect.proofs.part_verdict.Statement.{statement}
+use Rattle.connect.proofs.part_verdict.Tie as tie
+
+standing-of-requires : tie.Need-standing-of-requires
+standing-of-requires c κs = search needs
+
+standing-of-requires-2 : tie.Need-standing-of-requires-2
+standing-of-requires-2 c κs = search needs
+
+link-between-requires : tie.Need-link-between-requires
+link-between-requires c κs = search needs
+
+part-checked-requires : tie.Need-part-checked-requires
+part-checked-requires c κs = search needs
+
+returns : tie.Need-returns
+returns c = λ u.
+    let standing = c .before .before in
+    let args = standing .before .before .args in
+    rw (
+      by-tests (withUnread u (ranksOf (args .roster .now))) .part (args .a) (args .b),
+      c .part-checked .ensures,
+      c .before .link-between .ensures,
+      standing .standing-of2 .ensures,
+      standing .before .standing-of .ensures,
+    )
+
+pub part-verdict-spec : {M : Type 1} → statement M
+part-verdict-spec =
+    tie.close
+    (tie.spec
+    standing-of-requires
+    standing-of-requires-2
+    link-between-requires
+    part-checked-requires
+    returns)

@@ -1,0 +1,41 @@
+-- `connect::route_verdict` meets its contract: the tests at what was read give the refusal of the definition. Assumes nothing.
+use borrow.Author.Needs.{needs}
+use Rattle.broker.specs.State.{withUnread}
+use Rattle.roster.specs.Roster.{ranksOf}
+use Rattle.connect.specs.Laws.Judged.{by-tests}
+use Rattle.connect.proofs.route_verdict.Statement.{statement}
+use Rattle.connect.proofs.route_verdict.Tie as tie
+
+standing-of-requires : tie.Need-standing-of-requires
+standing-of-requires c κs = search needs
+
+standing-of-requires-2 : tie.Need-standing-of-requires-2
+standing-of-requires-2 c κs = search needs
+
+request-of-requires : tie.Need-request-of-requires
+request-of-requires c κs = search needs
+
+route-checked-requires : tie.Need-route-checked-requires
+route-checked-requires c κs = search needs
+
+returns : tie.Need-returns
+returns c = λ u.
+    let standing = c .before .before in
+    let args = standing .before .before .args in
+    rw (
+      by-tests (withUnread u (ranksOf (args .roster .now))) .route (args .a) (args .b),
+      c .route-checked .ensures,
+      c .before .request-of .ensures,
+      standing .standing-of2 .ensures,
+      standing .before .standing-of .ensures,
+    )
+
+pub route-verdict-spec : {M : Type 1} → statement M
+route-verdict-spec =
+    tie.close
+    (tie.spec
+    standing-of-requires
+    standing-of-requires-2
+    request-of-requires
+    route-checked-requires
+    returns)

@@ -1,0 +1,41 @@
+-- `depart::move_verdict` meets its contract: the tests at what was read give the refusal of the definition. Assumes nothing.
+use borrow.Author.Needs.{needs}
+use Rattle.broker.specs.State.{withUnread}
+use Rattle.roster.specs.Roster.{ranksOf}
+use Rattle.depart.specs.Laws.Judged.{by-tests}
+use Rattle.depart.proofs.move_verdict.Statement.{statement}
+use Rattle.depart.proofs.move_verdict.Tie as tie
+
+standing-of-requires : tie.Need-standing-of-requires
+standing-of-requires c κs = search needs
+
+request-of-requires : tie.Need-request-of-requires
+request-of-requires c κs = search needs
+
+drawn-on-requires : tie.Need-drawn-on-requires
+drawn-on-requires c κs = search needs
+
+move-checked-requires : tie.Need-move-checked-requires
+move-checked-requires c κs = search needs
+
+returns : tie.Need-returns
+returns c = λ u.
+    let request = c .before .before in
+    let args = request .before .before .args in
+    rw (
+      by-tests (withUnread u (ranksOf (args .roster .now))) (args .r) (args .host),
+      c .move-checked .ensures,
+      c .before .drawn-on .ensures,
+      request .request-of .ensures,
+      request .before .standing-of .ensures,
+    )
+
+pub move-verdict-spec : {M : Type 1} → statement M
+move-verdict-spec =
+    tie.close
+    (tie.spec
+    standing-of-requires
+    request-of-requires
+    drawn-on-requires
+    move-checked-requires
+    returns)

@@ -1,0 +1,29 @@
+-- `exchange::look_verdict` meets its contract: the tests at what was read give the refusal of the definition. Assumes nothing.
+use borrow.Author.Needs.{needs}
+use Rattle.checks.specs.Desk.{deskOf}
+use Rattle.exchange.specs.Laws.Judged.{by-tests}
+use Rattle.exchange.proofs.look_verdict.Statement.{statement}
+use Rattle.exchange.proofs.look_verdict.Tie as tie
+
+standing-of-requires : tie.Need-standing-of-requires
+standing-of-requires c κs = search needs
+
+first-to-requires : tie.Need-first-to-requires
+first-to-requires c κs = search needs
+
+look-checked-requires : tie.Need-look-checked-requires
+look-checked-requires c κs = search needs
+
+returns : tie.Need-returns
+returns c =
+    let args = c .before .before .before .args in
+    rw (
+      by-tests (deskOf (args .slots .now) (args .contents .now) (args .roster .now)) .look (args .r),
+      c .look-checked .ensures,
+      c .before .first-to .ensures,
+      c .before .before .standing-of .ensures,
+    )
+
+pub look-verdict-spec : {M : Type 1} → statement M
+look-verdict-spec =
+    tie.close (tie.spec standing-of-requires first-to-requires look-checked-requires returns)

@@ -1,0 +1,40 @@
+-- `exchange::take_verdict` meets its contract: the tests at what was read give the refusal of the definition. Assumes nothing.
+use borrow.Author.Needs.{needs}
+use Rattle.checks.specs.Desk.{deskOf}
+use Rattle.exchange.specs.Laws.Judged.{by-tests}
+use Rattle.exchange.proofs.take_verdict.Statement.{statement}
+use Rattle.exchange.proofs.take_verdict.Tie as tie
+
+standing-of-requires : tie.Need-standing-of-requires
+standing-of-requires c κs = search needs
+
+standing-of-requires-2 : tie.Need-standing-of-requires-2
+standing-of-requires-2 c κs = search needs
+
+unread-between-requires : tie.Need-unread-between-requires
+unread-between-requires c κs = search needs
+
+take-checked-requires : tie.Need-take-checked-requires
+take-checked-requires c κs = search needs
+
+returns : tie.Need-returns
+returns c = λ contents m.
+    let standing = c .before .before in
+    let args = standing .before .before .args in
+    rw (
+      by-tests (deskOf (args .slots .now) contents (args .roster .now)) .take (args .b) (args .a),
+      c .take-checked .ensures,
+      c .before .unread-between .ensures contents m,
+      standing .standing-of2 .ensures,
+      standing .before .standing-of .ensures,
+    )
+
+pub take-verdict-spec : {M : Type 1} → statement M
+take-verdict-spec =
+    tie.close
+    (tie.spec
+    standing-of-requires
+    standing-of-requires-2
+    unread-between-requires
+    take-checked-requires
+    returns)

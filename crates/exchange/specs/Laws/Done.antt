@@ -1,0 +1,41 @@
+-- What a send and a take leave and answer, by what became of the messages. Assumes nothing.
+use mathlib.Core.Path.{_≡_}
+use mathlib.Core.Bool.{true}
+use mathlib.Core.List.{List}
+use Prim.Native.Nat.{ℕ, _<_}
+use lib.ListN.{length}
+use Rattle.transit.specs.Laws.Promise.{appended-unread, left-unread}
+use Rattle.transit.specs.Lists.{tally}
+use Rattle.transit.specs.Mail.{Appended, Left, messagesIn, unreadIn}
+use Rattle.transit.specs.Message.{between}
+use Rattle.transit.specs.Unread.{limit}
+use Rattle.transit.specs.declared.Place.{Place}
+use Rattle.transit.specs.declared.Rank.{Rank}
+use Rattle.broker.specs.Laws.Sound.{facts}
+use Rattle.broker.specs.Life.{done}
+use Rattle.broker.specs.Messages.{placeOver, send, take}
+use Rattle.broker.specs.Sound.{sound}
+use Rattle.broker.specs.State.{State, connection, withUnread}
+
+module _ (a b : Rank) (ranks : State) {slots contents slots' : List ℕ} where
+  -- the message is behind all others
+  pub send-done :
+      {contents' : List ℕ} {n : ℕ} (v : ℕ) (p : Place) →
+      p ≡ placeOver (connection ranks a b) →
+      Appended (record { sender = a; receiver = b; place = p; value = v }) slots contents n slots' contents' →
+      length (messagesIn slots contents) < limit →
+      done (withUnread (unreadIn slots' contents') ranks) n 0 0 ≡ send a b v (withUnread (unreadIn slots contents) ranks)
+  unfolding send
+  send-done v p e x room = rw (x .pair, ← e, appended-unread x room)
+
+  -- the pair's first message has left, which in a sound state is the first in place order
+  pub take-done :
+      {value rest : ℕ} → Left a b slots contents value rest slots' →
+      a .0 < 16 → b .0 < 16 →
+      0 < tally (between a b) (messagesIn slots contents) →
+      sound (withUnread (unreadIn slots contents) ranks) ≡ true →
+      done (withUnread (unreadIn slots' contents) ranks) value rest 0 ≡ take b a (withUnread (unreadIn slots contents) ranks)
+  unfolding take
+  take-done x in-a in-b some ok =
+      let s = withUnread (unreadIn slots contents) ranks in
+      rw (left-unread x some (facts s ok .mail .places-rise a b in-a in-b), x .found, x .pair)

@@ -1,0 +1,30 @@
+-- `life::start_verdict` meets its contract: the tests at what was read give the refusal of the definition. Assumes nothing.
+use borrow.Author.Needs.{needs}
+use Rattle.broker.specs.State.{withUnread}
+use Rattle.roster.specs.Roster.{ranksOf}
+use Rattle.life.specs.Laws.Judged.{by-tests}
+use Rattle.life.proofs.start_verdict.Statement.{statement}
+use Rattle.life.proofs.start_verdict.Tie as tie
+
+standing-of-requires : tie.Need-standing-of-requires
+standing-of-requires c κs = search needs
+
+drawn-on-requires : tie.Need-drawn-on-requires
+drawn-on-requires c κs = search needs
+
+start-checked-requires : tie.Need-start-checked-requires
+start-checked-requires c κs = search needs
+
+returns : tie.Need-returns
+returns c = λ u.
+    let args = c .before .before .before .args in
+    rw (
+      by-tests (withUnread u (ranksOf (args .roster .now))) .start (args .r) (args .host),
+      c .start-checked .ensures,
+      c .before .drawn-on .ensures,
+      c .before .before .standing-of .ensures,
+    )
+
+pub start-verdict-spec : {M : Type 1} → statement M
+start-verdict-spec =
+    tie.close (tie.spec standing-of-requires drawn-on-requires start-checked-requires returns)

@@ -1,0 +1,30 @@
+-- `migrate::land_verdict` meets its contract: the tests at what was read give the refusal of the definition. Assumes nothing.
+use borrow.Author.Needs.{needs}
+use Rattle.broker.specs.State.{withUnread}
+use Rattle.roster.specs.Roster.{ranksOf}
+use Rattle.migrate.specs.Laws.Judged.{by-tests}
+use Rattle.migrate.proofs.land_verdict.Statement.{statement}
+use Rattle.migrate.proofs.land_verdict.Tie as tie
+
+standing-of-requires : tie.Need-standing-of-requires
+standing-of-requires c κs = search needs
+
+awaits-requires : tie.Need-awaits-requires
+awaits-requires c κs = search needs
+
+land-checked-requires : tie.Need-land-checked-requires
+land-checked-requires c κs = search needs
+
+returns : tie.Need-returns
+returns c = λ u.
+    let args = c .before .before .before .args in
+    rw (
+      by-tests (withUnread u (ranksOf (args .roster .now))) .land (args .r),
+      c .land-checked .ensures,
+      c .before .awaits .ensures,
+      c .before .before .standing-of .ensures,
+    )
+
+pub land-verdict-spec : {M : Type 1} → statement M
+land-verdict-spec =
+    tie.close (tie.spec standing-of-requires awaits-requires land-checked-requires returns)
