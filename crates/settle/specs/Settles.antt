@@ -1,0 +1,28 @@
+-- What a record comes to on the lent arrays. Paper 01, "What the contracts carry". Assumes nothing.
+use mathlib.Core.Bool.{true}
+use mathlib.Core.List.{List}
+use mathlib.Core.Path.{_≡_}
+use Prim.Native.Nat.{ℕ}
+use Rattle.broker.specs.Life.{Done}
+use Rattle.broker.specs.Sound.{sound}
+use Rattle.broker.specs.State.{State}
+use Rattle.broker.specs.Step.{Settlement, apply, settle}
+use Rattle.broker.specs.declared.answer.Answer.{Answer}
+use Rattle.broker.specs.declared.record.Record.{Record}
+use Rattle.checks.specs.Desk.{deskOf, Desk}
+use Rattle.checks.specs.Look.{nameFor}
+
+-- what a record does; a look names the oldest sender
+abbrev pub applied : Record → State → Done
+applied r s = apply (nameFor s r) r s
+
+-- what a record comes to by the definition; a look names the oldest sender
+abbrev pub settled : Record → State → Settlement
+settled r s = settle (nameFor s r) r s
+
+-- where the arrays held a sound state, the answer is the definition's and they hold the definition's next state
+pub record Settles (r : Record) (slots contents roster : List ℕ) (a : Answer) (slots' contents' roster' : List ℕ) : Type 0 where
+  pub kept : Desk slots' contents' roster'
+  pub same :
+      sound (deskOf slots contents roster) ≡ true →
+      record { answer = a; state = deskOf slots' contents' roster' } ≡ settled r (deskOf slots contents roster)
