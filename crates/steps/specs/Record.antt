@@ -30,11 +30,17 @@ shortRecord kind first second =
     (cond (eqb kind Kind.end) (End (rank first)) (Look (rank first)))))))))))
 
 -- every kind but a send has such a record
-pub short-is-record : (kind : ℕ) (log : List ℕ) (at : ℕ) → (kind ≡ 4 → ⊥) → recordOf kind log at ≡ shortRecord kind (getD log at 0) (getD log (at + 1) 0)
+pub short-is-record :
+    (kind : ℕ) (log : List ℕ) (at : ℕ) → (kind ≡ 4 → ⊥) →
+    recordOf kind log at ≡ shortRecord kind (getD log at 0) (getD log (at + 1) 0)
 short-is-record kind log at e = rw (ne-eqb kind 4 e, add-zero at)
 
 -- a send has two ranks and a value
-pub send-is-record : (kind : ℕ) (log : List ℕ) (at : ℕ) → kind ≡ 4 → recordOf kind log at ≡ Send (rank (getD log at 0)) (rank (getD log (at + 1) 0)) (valueOf (getD log (at + 2) 0) (getD log (at + 3) 0) (getD log (at + 4) 0) (getD log (at + 5) 0))
+pub send-is-record :
+    (kind : ℕ) (log : List ℕ) (at : ℕ) → kind ≡ 4 →
+    recordOf kind log at ≡
+    Send (rank (getD log at 0)) (rank (getD log (at + 1) 0))
+    (valueOf (getD log (at + 2) 0) (getD log (at + 3) 0) (getD log (at + 4) 0) (getD log (at + 5) 0))
 send-is-record kind log at e = rw (e, add-zero at)
 
 -- What stands at a position, by the tests that are made there.
@@ -47,11 +53,15 @@ module _ (log : List ℕ) (at : ℕ) where
   unfolding decode
   no-kind h k = rw (lt-ltb at (length log) h, k)
 
-  pub cut-short : at < length log → Kind.isKind (getD log at 0) ≡ true → length log < at + 1 + Kind.bodyLength (getD log at 0) → decode log at ≡ Cut
+  pub cut-short :
+      at < length log → Kind.isKind (getD log at 0) ≡ true →
+      length log < at + 1 + Kind.bodyLength (getD log at 0) → decode log at ≡ Cut
   unfolding decode
   cut-short h k l = rw (lt-ltb at (length log) h, k, lt-leb (at + 1 + Kind.bodyLength (getD log at 0)) (length log) l)
 
-  pub whole : at < length log → Kind.isKind (getD log at 0) ≡ true → at + 1 + Kind.bodyLength (getD log at 0) ≤ length log → decode log at ≡ Whole (recordOf (getD log at 0) log (at + 1)) (at + 1 + Kind.bodyLength (getD log at 0))
+  pub whole :
+      at < length log → Kind.isKind (getD log at 0) ≡ true → at + 1 + Kind.bodyLength (getD log at 0) ≤ length log →
+      decode log at ≡ Whole (recordOf (getD log at 0) log (at + 1)) (at + 1 + Kind.bodyLength (getD log at 0))
   unfolding decode
   whole h k l = rw (lt-ltb at (length log) h, k, le-leb (at + 1 + Kind.bodyLength (getD log at 0)) (length log) l)
 

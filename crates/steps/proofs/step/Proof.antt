@@ -1,28 +1,78 @@
--- `steps::step` meets its contract: a sound state is stepped, any other is refused. Assumes nothing.
-use mathlib.Core.Path.{sym, _∙_}
+-- `steps::step` meets its contract: a sound state is stepped on the arrays and comes back from them, any other is refused.
+-- Assumes nothing.
+use mathlib.Core.Path.{refl, sym, subst, _∙_}
 use borrow.Author.Needs.{needs}
-use Rattle.broker.specs.State.{view}
-use Rattle.steps.specs.Laws.{sound-step, unsound-step}
-use Rattle.steps.specs.Outcome.{outcome}
+use borrow.Author.Tests.{not-true, not-false}
+use Rattle.broker.specs.State.{State, view}
+use Rattle.broker.specs.Step.{Stepped}
+use Rattle.steps.specs.Laws.InPlace.{stepped-in-place}
+use Rattle.steps.specs.Laws.Refused.{accepted-is-no-refusal, refused-step}
+use Rattle.steps.specs.Laws.Step.{unsound-step}
+use Rattle.steps.specs.Outcome.{replied}
 use Rattle.steps.proofs.step.Statement.{statement}
 use Rattle.steps.proofs.step.Tie as tie
 
-is-sound-requires : tie.Need-is-sound-requires
-is-sound-requires c κs = search needs
-
-step-sound-requires : tie.Need-step-sound-requires
-step-sound-requires c κs = search needs
+load-requires : tie.Need-load-requires
+load-requires c κs = search needs
 
 returns : tie.Need-returns
 returns c =
-    let test = c .before in
-    let args = test .before .before .before .args in
-    sound-step (view (args .b)) (args .log .now) (args .at) (outcome (c .step-sound .result)) (sym (test .before .is-sound .ensures) ∙ test .if1 .taken) (c .step-sound .ensures)
+    let loaded = c .before in
+    let args = loaded .before .before .before .before .before .args in
+    let failed = sym (loaded .load .ensures .tells) ∙ not-true _ (c .if1 .taken) in
+    (unsound-step (view (args .b)) (args .log .now) (args .at) failed, λ n e. refl)
+
+step-in-place-requires : tie.Need-step-in-place-requires
+step-in-place-requires c κs =
+    let test = c .before .before .before in
+    test .before .load .ensures .holds (not-false _ (test .if1 .left)) .desk
+
+enum-told : tie.Need-enum-told
+enum-told c = search needs
+
+enum-told-2 : tie.Need-enum-told-2
+enum-told-2 c = search needs
+
+unload-requires : tie.Need-unload-requires
+unload-requires c κs = search needs
 
 returns-2 : tie.Need-returns-2
 returns-2 c =
-    let args = c .before .before .before .args in
-    unsound-step (view (args .b)) (args .log .now) (args .at) (sym (c .before .is-sound .ensures) ∙ c .if1 .left)
+    let step = c .before .before in
+    let test = step .before .before .before .before in
+    let loaded = test .before in
+    let args = loaded .before .before .before .before .before .args in
+    let passed = not-false _ (test .if1 .left) in
+    let stepped =
+    stepped-in-place (view (args .b)) (sym (loaded .load .ensures .tells) ∙ passed) (loaded .load .ensures .holds passed)
+    (step .step-in-place .ensures) in
+    (refused-step (view (args .b)) (args .log .now) (args .at) _ _ (c .enum-told .given .1) stepped, λ n e. refl)
+
+returns-3 : tie.Need-returns-3
+returns-3 c =
+    let told = c .before .before .before .before in
+    let step = told .before .before in
+    let test = step .before .before .before .before in
+    let loaded = test .before in
+    let args = loaded .before .before .before .before .before .args in
+    let passed = not-false _ (test .if1 .left) in
+    let stepped =
+    stepped-in-place (view (args .b)) (sym (loaded .load .ensures .tells) ∙ passed) (loaded .load .ensures .holds passed)
+    (step .step-in-place .ensures) in (
+      subst (λ (s : State). Stepped (view (args .b)) (args .log .now) (args .at) (replied (step .step-in-place .result) s))
+          (sym (c .unload .ensures)) stepped,
+      accepted-is-no-refusal (step .step-in-place .result .answer) _ _ _ _ _ (told .enum-told2 .given .1),
+    )
 
 pub step-spec : {M : Type 1} → statement M
-step-spec = tie.close (tie.spec is-sound-requires step-sound-requires returns returns-2)
+step-spec =
+    tie.close
+    (tie.spec
+    load-requires
+    returns
+    step-in-place-requires
+    enum-told
+    enum-told-2
+    unload-requires
+    returns-2
+    returns-3)

@@ -16,12 +16,15 @@ use Rattle.broker.specs.declared.record.Decoded.{Decoded}
 use Rattle.broker.specs.declared.record.Decoded.the-variants.{Whole, Unknown, Cut}
 use Rattle.broker.specs.declared.record.Record.{Record}
 use Rattle.broker.specs.declared.record.Record.the-variants.{Start, Call, Route, Send, Take, Move, Heed, Drain, Land, Part, End, Look}
-use Rattle.exchange.specs.Laws.Look.{accepted-look-has-unread}
-use Rattle.steps.specs.Outcome.{nameFor, nameAt}
+use Rattle.checks.specs.Laws.Look.{accepted-look-has-unread}
+use Rattle.checks.specs.Look.{nameFor}
+use Rattle.steps.specs.Outcome.{nameAt}
 
 module _ (s : State) (log : List ℕ) (at : ℕ) where
   -- a whole record is settled, and the position passes it
-  pub on-whole : (r : Record) (next : ℕ) (x : Settlement) → decode log at ≡ Whole r next → x ≡ settle (nameFor s r) r s → _≡_ {A = Outcome} (record { answer = x .answer; next = next; state = x .state }) (stepSound (nameAt s (decode log at)) s log at)
+  pub on-whole :
+      (r : Record) (next : ℕ) (x : Settlement) → decode log at ≡ Whole r next → x ≡ settle (nameFor s r) r s →
+      _≡_ {A = Outcome} (record { answer = x .answer; next = next; state = x .state }) (stepSound (nameAt s (decode log at)) s log at)
   unfolding stepSound
   on-whole r next x e h = rw (e, h)
 
@@ -56,7 +59,9 @@ name-fits s Unknown = tt
 name-fits s Cut = tt
 
 -- a step of a sound state, and of any other
-pub sound-step : (s : State) (log : List ℕ) (at : ℕ) (o : Outcome) → sound s ≡ true → o ≡ stepSound (nameAt s (decode log at)) s log at → Stepped s log at o
+pub sound-step :
+    (s : State) (log : List ℕ) (at : ℕ) (o : Outcome) → sound s ≡ true →
+    o ≡ stepSound (nameAt s (decode log at)) s log at → Stepped s log at o
 unfolding step
 sound-step s log at o h e =
     record { named = nameAt s (decode log at); fits = name-fits s (decode log at); same = rw h e }

@@ -24,7 +24,8 @@ returns-3 : tie.Need-returns-3
 returns-3 c =
     let inside = c .before .before .before in
     let args = inside .before .before .args in
-    rw (no-kind (args .log .now) (args .at) (inside .if1 .left) (kind-above (getD (args .log .now) (args .at) 0) (c .before .if2 .left) (c .if3 .taken)))
+    let above = kind-above (getD (args .log .now) (args .at) 0) (c .before .if2 .left) (c .if3 .taken) in
+    rw (no-kind (args .log .now) (args .at) (inside .if1 .left) above)
 
 add-body : tie.Need-add-body
 add-body c = search needs

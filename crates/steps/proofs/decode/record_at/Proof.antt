@@ -64,7 +64,12 @@ returns-2 c =
     let left = c .before in
     let second = left .before in
     let args = second .before .before .before .args in
-    rw (short-is-record (args .kind) (args .log .now) (args .at) (left .if1 .left), c .short-record .ensures, second .byte-at2 .ensures, second .before .byte-at .ensures)
+    rw (
+      short-is-record (args .kind) (args .log .now) (args .at) (left .if1 .left),
+      c .short-record .ensures,
+      second .byte-at2 .ensures,
+      second .before .byte-at .ensures,
+    )
 
 pub record-at-spec : {M : Type 1} → statement M
 record-at-spec =

@@ -1,0 +1,73 @@
+-- `steps::in_place::step_in_place` meets its contract: what stands at the position is settled as `settle` ensures. Assumes nothing.
+use mathlib.Core.Path.{sym, _∙_}
+use borrow.Author.Needs.{needs}
+use Rattle.broker.specs.State.{State}
+use Rattle.checks.specs.Desk.{deskOf}
+use Rattle.steps.specs.Laws.Step.{on-whole, on-unknown, on-cut}
+use Rattle.steps.proofs.in_place.step_in_place.Statement.{statement}
+use Rattle.steps.proofs.in_place.step_in_place.Tie as tie
+
+-- the state that is lent
+abbrev held : tie.Start → State
+held c = deskOf (c .args .slots .now) (c .args .contents .now) (c .args .roster .now)
+
+decode-requires : tie.Need-decode-requires
+decode-requires c κs = search needs
+
+enum-known-decoded : tie.Need-enum-known-decoded
+enum-known-decoded c = search needs
+
+settle-requires : tie.Need-settle-requires
+settle-requires c κs = search needs
+
+enum-told : tie.Need-enum-told
+enum-told c = search needs
+
+enum-told-2 : tie.Need-enum-told-2
+enum-told-2 c = search needs
+
+returns : tie.Need-returns
+returns c =
+    let known = c .before .before .before .before .before in
+    let decode = known .before .before in
+    let start = decode .before .before in
+    let settled = c .settle .ensures in
+    record {
+      kept = settled .kept;
+      same = λ ok.
+          on-whole (held start) (start .args .log .now) (start .args .at) _ _ _ (sym (decode .decode .ensures) ∙ known .decoded .given .1)
+          (settled .same ok);
+    }
+
+returns-2 : tie.Need-returns-2
+returns-2 c =
+    let decode = c .before .before in
+    let start = decode .before .before in
+    record {
+      kept = start .pre;
+      same = λ ok.
+          on-unknown (held start) (start .args .log .now) (start .args .at) (sym (decode .decode .ensures) ∙ c .enum-told .given .1);
+    }
+
+returns-3 : tie.Need-returns-3
+returns-3 c =
+    let decode = c .before .before in
+    let start = decode .before .before in
+    record {
+      kept = start .pre;
+      same = λ ok.
+          on-cut (held start) (start .args .log .now) (start .args .at) (sym (decode .decode .ensures) ∙ c .enum-told2 .given .1);
+    }
+
+pub step-in-place-spec : {M : Type 1} → statement M
+step-in-place-spec =
+    tie.close
+    (tie.spec
+    decode-requires
+    enum-known-decoded
+    settle-requires
+    enum-told
+    enum-told-2
+    returns
+    returns-2
+    returns-3)

@@ -1,0 +1,24 @@
+-- `steps::load::open_fresh` meets its contract: no message, and the fresh roster. Assumes nothing.
+use borrow.Author.Needs.{needs}
+use Rattle.transit.proofs.load.clear.Reads as load-clear-reads′
+use Rattle.steps.proofs.load.open_fresh.Statement.{statement}
+use Rattle.steps.proofs.load.open_fresh.Tie as tie
+
+clear-requires : tie.Need-clear-requires
+clear-requires c κs = search needs
+
+clear-requires-2 : tie.Need-clear-requires-2
+clear-requires-2 c κs = search needs
+
+returns : tie.Need-returns
+returns c =
+    let cleared = c .before .before in
+    let start = cleared .before .before in
+    let empty = cleared .clear .ensures (start .args .contents .now) (start .pre .1 .0) in
+    record {
+      desk = record { mail = empty .kept; long = c .clear2 .ensures .long };
+      same = rw (empty .same, c .clear2 .ensures .same);
+    }
+
+pub open-fresh-spec : {M : Type 1} → statement M
+open-fresh-spec = tie.close (tie.spec clear-requires clear-requires-2 returns)

@@ -1,0 +1,25 @@
+-- `steps::load::unload` meets its contract: the ranks' part, and the messages beside it. Assumes nothing.
+use mathlib.Core.Path.{ap, _∙_}
+use borrow.Author.Needs.{needs}
+use Rattle.transit.proofs.load.unload.Reads as load-unload-reads′
+use Rattle.transit.specs.Unread.{Unread, view as unreadOf}
+use Rattle.broker.specs.State.{State, withUnread}
+use Rattle.roster.specs.Roster.{ranksOf}
+use Rattle.steps.proofs.load.unload.Statement.{statement}
+use Rattle.steps.proofs.load.unload.Tie as tie
+
+unload-into-requires : tie.Need-unload-into-requires
+unload-into-requires c κs = search needs
+
+unload-requires : tie.Need-unload-requires
+unload-requires c κs = search needs
+
+returns : tie.Need-returns
+returns c =
+    let messages = c .before in
+    let args = messages .before .before .args in
+    ap (λ (s : State). withUnread (unreadOf (messages .unload-into .result)) s) (c .unload .ensures) ∙
+    ap (λ (u : Unread). withUnread u (ranksOf (args .roster .now))) (messages .unload-into .ensures)
+
+pub unload-spec : {M : Type 1} → statement M
+unload-spec = tie.close (tie.spec unload-into-requires unload-requires returns)

@@ -1,0 +1,4 @@
+-- Laws of the definitions that the contracts cite.
+pub mod InPlace
+pub mod Refused
+pub mod Step

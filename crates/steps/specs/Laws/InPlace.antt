@@ -1,0 +1,58 @@
+-- A state by value and the arrays that hold it: into them, and a step on them. Assumes nothing.
+use mathlib.Core.Path.{_≡_, refl, ap, subst, _∙_}
+use mathlib.Core.Bool.{Bool, true, false, not, _&&_}
+use mathlib.Core.List.{List}
+use Prim.Native.Nat.{ℕ}
+use lib.ListN.{length}
+use Rattle.transit.specs.Laws.Lists.{every-wider}
+use Rattle.transit.specs.Lists.{every}
+use Rattle.transit.specs.Mail.{messagesIn, unreadIn}
+use Rattle.transit.specs.Message.{sameRank}
+use Rattle.transit.specs.Slots.{ranked}
+use Rattle.transit.specs.Unread.{Unread, nothing}
+use Rattle.transit.specs.declared.Message.{Message}
+use Rattle.broker.specs.Laws.Sound.{facts}
+use Rattle.broker.specs.Ranks.{isRank}
+use Rattle.broker.specs.Sound.{sound}
+use Rattle.broker.specs.State.{State, messages, withUnread}
+use Rattle.broker.specs.Step.{Stepped}
+use Rattle.roster.specs.Roster.{ranksOf}
+use Rattle.checks.specs.Desk.{deskOf}
+use Rattle.steps.specs.Laws.Step.{sound-step}
+use Rattle.steps.specs.Outcome.{replied, stepOldest, StepsInPlace, HoldsState}
+use Rattle.steps.specs.declared.Reply.{Reply}
+
+-- from a rank to another rank
+abbrev named : Message → Bool
+named m = isRank (m .sender) && isRank (m .receiver) && not (sameRank (m .sender) (m .receiver))
+
+-- the messages of a sound state are between ranks
+pub sound-ranked : (s : State) → sound s ≡ true → every ranked (messages s) ≡ true
+sound-ranked s ok =
+    every-wider named ranked (λ m e. between-ranks (isRank (m .sender)) (isRank (m .receiver)) _ e) (messages s)
+    (facts s ok .mail .named)
+  where
+    between-ranks : (a b c : Bool) → (a && b && c) ≡ true → (a && b) ≡ true
+    between-ranks true true c e = refl
+    between-ranks true false c e = e
+    between-ranks false b c e = e
+
+-- the arrays hold a sound state where they hold its messages and all else of it
+pub state-held :
+    (s : State) (slots contents roster : List ℕ) → sound s ≡ true →
+    messagesIn slots contents ≡ messages s → ranksOf roster ≡ withUnread nothing s → deskOf slots contents roster ≡ s
+state-held s slots contents roster ok mail ranks =
+    let unread : unreadIn slots contents ≡ s .unread =
+    ap (λ (l : List Message). record { messages = l; count = length l }) mail ∙
+    ap (λ (n : ℕ). record { messages = messages s; count = n }) (facts s ok .mail .counted) in
+    ap (λ (u : Unread). withUnread u (ranksOf roster)) unread ∙ ap (λ (t : State). withUnread (s .unread) t) ranks
+
+-- a step on arrays that hold a sound state is a step of it
+pub stepped-in-place :
+    (s : State) {log : List ℕ} {at : ℕ} {slots contents roster : List ℕ} {r : Reply} {slots' contents' roster' : List ℕ} →
+    sound s ≡ true → HoldsState s slots contents roster →
+    StepsInPlace log at slots contents roster r slots' contents' roster' →
+    Stepped s log at (replied r (deskOf slots' contents' roster'))
+stepped-in-place s {log} {at} {r = r} {slots'} {contents'} {roster'} ok h x =
+    sound-step s log at _ ok
+    (subst (λ (t : State). replied r (deskOf slots' contents' roster') ≡ stepOldest t log at) (h .same) (x .same (rw (h .same) ok)))

