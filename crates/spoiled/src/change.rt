@@ -2,31 +2,39 @@
 ghost use Prim.Native.Nat.{_<_};
 use broker::link::Backlog;
 use broker::link::Connection;
+use broker::link::Link;
+use broker::process::Process;
 use broker::process::Request;
 use broker::process::Status;
 use broker::process::Vmid;
 use broker::state::Broker;
-use checks::backlog::awaiting;
-use checks::write::connect;
-use checks::write::set_request;
-use checks::write::set_status;
 use transit::Message;
 use transit::Place;
 use transit::Rank;
 
-pub fn with_status(b: Broker, r: u8, status: Status) -> Broker {
-    let processes = b.processes;
-    let changed = set_status(processes, Rank(r), status);
+pub fn with_status(b: Broker, r: usize, status: Status) -> Broker
+    requires { ⌜ r < 16 ⌝ }
+{
     let mut next = b;
-    next.processes = changed;
+    let process = next.processes[r];
+    let request = process.request;
+    next.processes[r] = Process {
+        status: status,
+        request: request,
+    };
     next
 }
 
-pub fn with_request(b: Broker, r: u8, request: Request) -> Broker {
-    let processes = b.processes;
-    let changed = set_request(processes, Rank(r), request);
+pub fn with_request(b: Broker, r: usize, request: Request) -> Broker
+    requires { ⌜ r < 16 ⌝ }
+{
     let mut next = b;
-    next.processes = changed;
+    let process = next.processes[r];
+    let status = process.status;
+    next.processes[r] = Process {
+        status: status,
+        request: request,
+    };
     next
 }
 
@@ -39,19 +47,31 @@ pub fn with_location(b: Broker, of: usize, about: usize, v: Vmid) -> Broker
     next
 }
 
-pub fn with_connection(b: Broker, from: u8, to: u8, connection: Connection) -> Broker {
-    let links = b.links;
-    let changed = connect(links, Rank(from), Rank(to), connection);
+pub fn with_connection(b: Broker, from: usize, to: usize, connection: Connection) -> Broker
+    requires { ⌜ from < 16 ⌝ }
+    requires to_rank { ⌜ to < 16 ⌝ }
+{
     let mut next = b;
-    next.links = changed;
+    let link = next.links[16 * from + to];
+    let backlog = link.backlog;
+    next.links[16 * from + to] = Link {
+        connection: connection,
+        backlog: backlog,
+    };
     next
 }
 
-pub fn with_backlog(b: Broker, of: u8, from: u8, backlog: Backlog) -> Broker {
-    let links = b.links;
-    let changed = awaiting(links, Rank(of), Rank(from), backlog);
+pub fn with_backlog(b: Broker, of: usize, from: usize, backlog: Backlog) -> Broker
+    requires { ⌜ of < 16 ⌝ }
+    requires from_rank { ⌜ from < 16 ⌝ }
+{
     let mut next = b;
-    next.links = changed;
+    let link = next.links[16 * of + from];
+    let connection = link.connection;
+    next.links[16 * of + from] = Link {
+        connection: connection,
+        backlog: backlog,
+    };
     next
 }
 
@@ -70,7 +90,15 @@ pub fn with_place(b: Broker, slot: usize, place: Place) -> Broker
 {
     let t = b.transit;
     let m = t.messages[slot];
-    with_message(b, slot, m.relabelled(place))
+    let sender = m.sender;
+    let receiver = m.receiver;
+    let changed = Message {
+        sender: sender,
+        receiver: receiver,
+        value: m.value,
+        place: place,
+    };
+    with_message(b, slot, changed)
 }
 
 pub fn with_ends(b: Broker, slot: usize, sender: u8, receiver: u8) -> Broker

@@ -36,7 +36,8 @@ pub fn counts(b: Broker) {
 }
 
 // "While r's await of s is unheeded, messages from s to r are at places 0 and 1 only. Places 0 and 1 occur only for a moving receiver,
-// place 1 only with an await, place 3 only with a line from receiver to sender. Within a pair, places never fall along the order of sending."
+// place 1 only with an await, place 3 only with a line from receiver to sender. Within a pair, places never fall along the order of
+// sending."
 pub fn places(b: Broker) {
     tell(b"unheeded-at-place-2", with_place(b, 6, Place::List));
     tell(b"unheeded-at-place-3", with_place(b, 6, Place::Channel));

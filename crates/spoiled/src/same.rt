@@ -79,7 +79,10 @@ fn same_link(l: Link, m: Link) -> bool {
 fn same_message(m: Message, n: Message) -> bool {
     let p = m.place;
     let q = n.place;
-    m.between(n.sender, n.receiver) && m.value == n.value && p.number() == q.number()
+    m.sender.0 == n.sender.0
+        && m.receiver.0 == n.receiver.0
+        && m.value == n.value
+        && p.number() == q.number()
 }
 
 fn same_processes(a: Broker, b: Broker) -> bool {

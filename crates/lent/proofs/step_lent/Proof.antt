@@ -1,5 +1,5 @@
--- `lent::step_lent` meets its contract: a walk of its MIR, by hand (`Walk.antt`). All that the proof knows of `step_or_keep`, which it calls, is that it meets its contract.
--- Assumes nothing.
+-- `lent::step_lent` meets its contract: a walk of its MIR, by hand (`Walk.antt`). All that the proof knows of `step`, which it calls, is
+-- that it meets its contract. Assumes nothing.
 mod Walk
 use mathlib.Core.Path.{_≡_, refl, sym, ap, subst}
 use mathlib.Core.Option.{some as lies}
@@ -19,7 +19,8 @@ use prog.Wp.{Heap, Calls, Loops, WpFn, Tables}
 use ghost.Atoms.{Atoms, sem}
 use contract.Monad.{Fun, fact}
 use contract.Running.{givenOf, tables, tablesOf}
-use types.Kit.{Given, Item, Step, step, prop, ‵, raw, _⊛_, ⋆, some, later, _$_, _∵_, !, qed, by, move, drop, use1, use2, split, join, pick, fsplit, fsplit3, fjoin, fjoin3, feqI, suffices, frame, await, updating, now as at-once, show, done}
+use types.Kit.{Given, Item, Step, step, prop, ‵, raw, _⊛_, ⋆, some, later, _$_, _∵_, !, qed, by, move, drop, use1, use2, split, join}
+use types.Kit.{pick, fsplit, fsplit3, fjoin, fjoin3, feqI, suffices, frame, await, updating, now as at-once, show, done}
 use types.SemTy.{Body}
 use sound.WpLaws.{FmC, fmOf, WpFn-mono}
 use denote.RattleType.{owns}
@@ -37,7 +38,8 @@ use denote.Triple.Clauses.{ensured, lasts}
 use denote.Triple.Entry.{onEntry}
 use denote.Triple.Spec.{Meets, tripleOf}
 use denote.Triple.Table.{entered, cited}
-use denote.Triple.Walked.{says, Stays, stay-ref, stay-none, stay-none-slice, walkOf, AllGo, goes-ref, goes-none, goes-none-slice, Walks, ends-at, walked, walk-meets}
+use denote.Triple.Walked.{says, Stays, stay-ref, stay-none, stay-none-slice, walkOf, AllGo, goes-ref, goes-none, goes-none-slice, Walks}
+use denote.Triple.Walked.{ends-at, walked, walk-meets}
 use denote.Exit.{yes}
 use Rattle.broker.specs.State.{view}
 use Rattle.broker.specs.Step.{Stepped}
@@ -45,18 +47,17 @@ use Rattle.broker.specs.declared.state.Broker.{Broker}
 use Rattle.broker.proofs.answer.Answer.Laws as A′
 use Rattle.broker.proofs.state.Broker as B
 use Rattle.broker.proofs.state.Broker.Laws as B′
-use Rattle.steps.specs.Outcome.{outcome}
-use Rattle.lent.specs.Reply.{RefusalKeeps}
+use Rattle.steps.specs.Outcome.{outcome, RefusalKeeps}
 use Rattle.steps.specs.declared.Outcome.{Outcome}
-use Rattle.lent.specs.declared.Reply.{Reply}
+use Rattle.steps.specs.declared.Reply.{Reply}
 use Rattle.steps.proofs.Outcome as O
 use Rattle.steps.proofs.Outcome.Laws as O′
-use Rattle.lent.proofs.Reply as R
-use Rattle.lent.proofs.Reply.Laws as R′
-use Rattle.lent.proofs.step_or_keep as inner
-use Rattle.lent.proofs.step_or_keep.Symbol as inner-def
-use Rattle.lent.proofs.step_or_keep.Symbol.{name as #lent·step-or-keep}
-use Rattle.lent.proofs.step_or_keep.Met as inner-thm
+use Rattle.steps.proofs.Reply as R
+use Rattle.steps.proofs.Reply.Laws as R′
+use Rattle.steps.proofs.step as inner
+use Rattle.steps.proofs.step.Symbol as inner-def
+use Rattle.steps.proofs.step.Symbol.{name as #steps·step}
+use Rattle.steps.proofs.step.Met as inner-thm
 use Rattle.lent.proofs.step_lent.Key.{name as #lent·step-lent}
 use Rattle.lent.proofs.step_lent as lent
 use Rattle.lent.proofs.step_lent.Statement as stated
@@ -74,7 +75,7 @@ abbrev τs : Tys
 τs = tcons B′.mir (tcons A′.mir (tcons (tyInt w64) tnil))
 
 abbrev function : Fn
-function = W′.function #lent·step-or-keep R′.mir τb τlog B′.mir (O.struct .name) τs
+function = W′.function #steps·step R′.mir τb τlog B′.mir (O.struct .name) τs
 
 code-is : code.function ≡ function
 code-is = refl
@@ -108,7 +109,8 @@ reply-is r u p =
     subst (Is R.the-row (reply r)) (R′.lowers .val-is (reply r) (LL.vals R.the-type R′.the-laws (reply r)) is) is
 
 -- a goal P ∗ (⌜φ⌝ ∗ ⌜ψ⌝): both are shown, and P is left
-says-both : {M : Type 1} {𝓤 : URA M} {H : Heap 𝓤} {A : Atoms 𝓤} {K : Type 0} {W : Given 𝓤 H A} {Γ : List (Item 𝓤)} → K → {φ ψ : Type 0} {P : SProp 𝓤} → φ → ψ → Step K W Γ (prop P) Γ (prop (sep 𝓤 P (sep 𝓤 (fact 𝓤 φ) (fact 𝓤 ψ))))
+says-both : {M : Type 1} {𝓤 : URA M} {H : Heap 𝓤} {A : Atoms 𝓤} {K : Type 0} {W : Given 𝓤 H A} {Γ : List (Item 𝓤)} → K →
+    {φ ψ : Type 0} {P : SProp 𝓤} → φ → ψ → Step K W Γ (prop P) Γ (prop (sep 𝓤 P (sep 𝓤 (fact 𝓤 φ) (fact 𝓤 ψ))))
 says-both {𝓤 = 𝓤} t {φ} {ψ} {P} x y =
     step (λ s. suffices t (sep 𝓤 (sep 𝓤 P (fact 𝓤 φ)) (fact 𝓤 ψ)) (assoc∗ 𝓤 P (fact 𝓤 φ) (fact 𝓤 ψ)) $ says t y $ says t x $ s)
 
@@ -116,17 +118,20 @@ abbrev Arg : Type 0
 Arg = RefT Broker × (RefT (List ℕ) × (ℕ × Unit {0}))
 
 abbrev stayed : Stays (lent.ended .signature .params) (lent.ended .kept)
-stayed = (stay-ref (0 ∷ []) tt (plain (λ _. B.the-row)), (stay-none-slice (1 ∷ []) tt (plain (λ _. u8)) yes, (stay-none (λ _. usize) yes, tt)))
+stayed =
+    (stay-ref (0 ∷ []) tt (plain (λ _. B.the-row)), (stay-none-slice (1 ∷ []) tt (plain (λ _. u8)) yes, (stay-none (λ _. usize) yes, tt)))
 
 module _ {M : Type 1} (𝓤 : URA M) (H : Heap 𝓤) (A : Atoms 𝓤) (at-mem : Memory → SProp 𝓤) (run : Routine → Fun 𝓤) where
   -- the contract that the proof cites
   abbrev Inner : Contract 𝓤
   Inner = tripleOf 𝓤 H A inner.signature (inner.spec 𝓤 H A at-mem run)
 
-broker-typed : {M : Type 1} (𝓤 : URA M) (H : Heap 𝓤) (A : Atoms 𝓤) (W : Given 𝓤 H A) (d : Broker) → Is B.the-row d (B′.lowered d ∷ []) → W′.Typed B′.mir (B′.lowered d)
+broker-typed : {M : Type 1} (𝓤 : URA M) (H : Heap 𝓤) (A : Atoms 𝓤) (W : Given 𝓤 H A) (d : Broker) →
+    Is B.the-row d (B′.lowered d ∷ []) → W′.Typed B′.mir (B′.lowered d)
 broker-typed 𝓤 H A W d is = LL.lawful B.the-type B′.the-laws 𝓤 H A W .typed d (B′.lowered d ∷ []) is .0
 
-module _ {M : Type 1} (𝓤 : URA M) (H : Heap 𝓤) (A : Atoms 𝓤) (W : Given 𝓤 H A) (at-mem : Memory → SProp 𝓤) (run : Routine → Fun 𝓤) (κ κ′ : Lft) (q q′ : Share) (b o : ℕ) (γ : GName) (h : Broker) (s : RefT (List ℕ)) (n : ℕ) where
+module _ {M : Type 1} (𝓤 : URA M) (H : Heap 𝓤) (A : Atoms 𝓤) (W : Given 𝓤 H A) (at-mem : Memory → SProp 𝓤) (run : Routine → Fun 𝓤)
+    (κ κ′ : Lft) (q q′ : Share) (b o : ℕ) (γ : GName) (h : Broker) (s : RefT (List ℕ)) (n : ℕ) where
   abbrev x : Arg
   x = (record { ptr = (b, o); name = γ; now = h }, (s, (n, tt)))
 
@@ -161,14 +166,18 @@ module _ {M : Type 1} (𝓤 : URA M) (H : Heap 𝓤) (A : Atoms 𝓤) (W : Given
   to = (((κ′, tt), (q′, tt), tt, (h, (s, (n, tt))), passed), tt)
 
   asked : ent 𝓤 (onEntry 𝓤 H A inner.signature (κ′, tt) (q′, tt) (h, (s, (n, tt))) passed) (Inner 𝓤 H A at-mem run .pre to)
-  asked = qed W (raw Token ∷ ‵ (owns (B.the-row ∷ ShrSlice (named 0) κ′ u8 ∷ usize ∷ []) (h, (s, (n, tt))) passed) ∷ []) ∵ join ! $ frame ! $ done !
+  asked =
+      qed W (raw Token ∷ ‵ (owns (B.the-row ∷ ShrSlice (named 0) κ′ u8 ∷ usize ∷ []) (h, (s, (n, tt))) passed) ∷ []) ∵ join ! $
+      frame ! $ done !
 
-  apart : ent 𝓤 (⋆ 𝓤 H A (‵ (B.the-row .own h (B′.lowered h ∷ [])) ∷ ‵ Rest ∷ raw Token ∷ [])) (sep 𝓤 (Inner 𝓤 H A at-mem run .pre to) (sem 𝓤 H A Log))
+  apart : ent 𝓤 (⋆ 𝓤 H A (‵ (B.the-row .own h (B′.lowered h ∷ [])) ∷ ‵ Rest ∷ raw Token ∷ []))
+      (sep 𝓤 (Inner 𝓤 H A at-mem run .pre to) (sem 𝓤 H A Log))
   apart =
       qed W (‵ (B.the-row .own h (B′.lowered h ∷ [])) ∷ ‵ Rest ∷ raw Token ∷ []) ∵
       move ! (1 ∷ []) $ fsplit ! $ use1 W (‵ Log ⊛ ‵ Log) (shr-slice-copy 𝓤 H A W (named 1) κ′ u8 .twice s (v ∷ [])) $ split ! $
       -- [what the log owns; the same; what the position owns; what the state owns; the token]
-      move ! (1 ∷ 2 ∷ []) $ fjoin ! $ move ! (2 ∷ 0 ∷ []) $ fjoin ! $ move ! (2 ∷ 0 ∷ []) $ use2 W (raw (Inner 𝓤 H A at-mem run .pre to)) asked $ frame ! $ done !
+      move ! (1 ∷ 2 ∷ []) $ fjoin ! $ move ! (2 ∷ 0 ∷ []) $ fjoin ! $ move ! (2 ∷ 0 ∷ []) $
+      use2 W (raw (Inner 𝓤 H A at-mem run .pre to)) asked $ frame ! $ done !
 
   -- what the callee ensures of an outcome
   abbrev Steps : Outcome → Type 0
@@ -178,8 +187,10 @@ module _ {M : Type 1} (𝓤 : URA M) (H : Heap 𝓤) (A : Atoms 𝓤) (W : Given
   Keeps r = RefusalKeeps (r .answer) h (r .broker)
 
   -- of the callee's `ensured`, the clauses alone: it has no `&mut`, so what is said of last values is dropped
-  said : (r : Outcome) → ent 𝓤 (ensured 𝓤 H A inner.ended (inner.clauses 𝓤 H A at-mem run) (κ′, tt) (h, (s, (n, tt))) tt r) (sep 𝓤 (fact 𝓤 (Steps r)) (fact 𝓤 (Keeps r)))
-  said r = exE 𝓤 _ (λ ws. snd∗ 𝓤 (sem 𝓤 H A (lasts inner.ended (κ′, tt) (h, (s, (n, tt))) ws)) (sep 𝓤 (fact 𝓤 (Steps r)) (fact 𝓤 (Keeps r))))
+  said : (r : Outcome) → ent 𝓤 (ensured 𝓤 H A inner.ended (inner.clauses 𝓤 H A at-mem run) (κ′, tt) (h, (s, (n, tt))) tt r)
+      (sep 𝓤 (fact 𝓤 (Steps r)) (fact 𝓤 (Keeps r)))
+  said r =
+      exE 𝓤 _ (λ ws. snd∗ 𝓤 (sem 𝓤 H A (lasts inner.ended (κ′, tt) (h, (s, (n, tt))) ws)) (sep 𝓤 (fact 𝓤 (Steps r)) (fact 𝓤 (Keeps r))))
 
   -- an outcome with the machine value u, of which the clauses hold: what the callee gives, beside the token
   record Came (u : Val) : Type 0 where
@@ -191,9 +202,13 @@ module _ {M : Type 1} (𝓤 : URA M) (H : Heap 𝓤) (A : Atoms 𝓤) (W : Given
   gave : (u : Val) → ent 𝓤 (Inner 𝓤 H A at-mem run .post to u) (H .⇛ (ex 𝓤 (λ (c : Came u). Token)))
   gave u =
       qed W (raw (Inner 𝓤 H A at-mem run .post to u) ∷ []) ∵ updating ! $
-      use1 W (later (some (λ (r : Outcome). (raw Token ⊛ ‵ (O.the-row .own r (u ∷ []))) ⊛ raw (ensured 𝓤 H A inner.ended (inner.clauses 𝓤 H A at-mem run) (κ′, tt) (h, (s, (n, tt))) tt r)))) (id⊢ 𝓤 _) $ await ! tt $ pick ! (λ r.
-      split ! $ move ! (1 ∷ []) $ use1 W (raw (fact 𝓤 (Steps r)) ⊛ raw (fact 𝓤 (Keeps r))) (said r) $ split ! $ heard ! (Steps r) (λ steps. heard ! (Keeps r) (λ keeps. split ! $ move ! (1 ∷ []) $
-      peeks ! O.the-row (Is O.the-row) (shows 𝓤 H A O.the-row) r (u ∷ []) (λ is. drop ! $ at-once ! $ show ! (λ (c : Came u). Token) (record { outcome = r; is = is; steps = steps; keeps = keeps }) $ done !))))
+      use1 W (later (some (λ (r : Outcome). (raw Token ⊛ ‵ (O.the-row .own r (u ∷ []))) ⊛
+      raw (ensured 𝓤 H A inner.ended (inner.clauses 𝓤 H A at-mem run) (κ′, tt) (h, (s, (n, tt))) tt r)))) (id⊢ 𝓤 _) $
+      await ! tt $ pick ! (λ r.
+      split ! $ move ! (1 ∷ []) $ use1 W (raw (fact 𝓤 (Steps r)) ⊛ raw (fact 𝓤 (Keeps r))) (said r) $ split ! $
+      heard ! (Steps r) (λ steps. heard ! (Keeps r) (λ keeps. split ! $ move ! (1 ∷ []) $
+      peeks ! O.the-row (Is O.the-row) (shows 𝓤 H A O.the-row) r (u ∷ []) (λ is. drop ! $ at-once ! $
+      show ! (λ (c : Came u). Token) (record { outcome = r; is = is; steps = steps; keeps = keeps }) $ done !))))
 
   made : (u : Val) → Came u → W′.Made R′.mir (O.struct .name) τs B.the-row B′.lowered u
   made u c =
@@ -208,46 +223,63 @@ module _ {M : Type 1} (𝓤 : URA M) (H : Heap 𝓤) (A : Atoms 𝓤) (W : Given
         reply-typed = LL.lawful R.the-type R′.the-laws 𝓤 H A W .typed (reply r) (R′.lowered (reply r) ∷ []) (reply-is r u (c .is)) .0;
       }
 
-  exits : n < 2 ^ 64 → (u : Val) (c : Came u) → ent 𝓤 (⋆ 𝓤 H A (Borrow (c .outcome .broker) (raw Token ∷ ‵ Log ∷ []))) (Post (R′.lowered (reply (c .outcome))))
+  exits : n < 2 ^ 64 → (u : Val) (c : Came u) → ent 𝓤 (⋆ 𝓤 H A (Borrow (c .outcome .broker) (raw Token ∷ ‵ Log ∷ [])))
+      (Post (R′.lowered (reply (c .outcome))))
   exits fits u c =
       let r = c .outcome in
       qed W (Borrow (r .broker) (raw Token ∷ ‵ Log ∷ [])) ∵
-      suffices ! _ (ends-at 𝓤 H A lent.ended stayed (lent.clauses 𝓤 H A at-mem run) W (((κ, (κ′, tt)), (q, (q′, tt)), tt, x, at), tt) (R′.lowered (reply r)) (reply r) (r .broker, (tt, (tt, tt))) (tt, (tt, (tt, tt)))) $ says-both ! (c .steps) (c .keeps) $
+      suffices ! _ (ends-at 𝓤 H A lent.ended stayed (lent.clauses 𝓤 H A at-mem run) W (((κ, (κ′, tt)), (q, (q′, tt)), tt, x, at), tt)
+      (R′.lowered (reply r)) (reply r) (r .broker, (tt, (tt, tt))) (tt, (tt, (tt, tt)))) $ says-both ! (c .steps) (c .keeps) $
       move ! (2 ∷ 3 ∷ []) $ join ! $ frame ! $ feqI ! (List Val) (vptr b o ∷ []) (vptr b o ∷ []) refl $ fjoin3 ! $
-      nothing ! $ owned ! usize (Is usize) (uint-makes 𝓤 H A W w64) n _ (refl, fits) $ fjoin ! $ move ! (2 ∷ 0 ∷ []) $ fjoin ! $ move ! (1 ∷ 0 ∷ []) $ fjoin ! $ frame ! $
+      nothing ! $ owned ! usize (Is usize) (uint-makes 𝓤 H A W w64) n _ (refl, fits) $ fjoin ! $ move ! (2 ∷ 0 ∷ []) $ fjoin ! $
+      move ! (1 ∷ 0 ∷ []) $ fjoin ! $ frame ! $
       owned ! R.the-row (Is R.the-row) (LL.makes R.the-type R′.the-plain 𝓤 H A) (reply r) _ (reply-is r u (c .is)) $ done !
 
-  module _ (C : Calls 𝓤 H) (Λ : Loops 𝓤 H) (fm : FmC 𝓤 H (W .laws) C) (known : Triple 𝓤 (C #lent·step-or-keep) (Inner 𝓤 H A at-mem run)) (log-is : Is (ShrSlice (named 1) κ′ u8) s (v ∷ [])) (fits : n < 2 ^ 64) where
+  module _ (C : Calls 𝓤 H) (Λ : Loops 𝓤 H) (fm : FmC 𝓤 H (W .laws) C) (known : Triple 𝓤 (C #steps·step) (Inner 𝓤 H A at-mem run))
+      (log-is : Is (ShrSlice (named 1) κ′ u8) s (v ∷ [])) (fits : n < 2 ^ 64) where
     runs : ent 𝓤 (⋆ 𝓤 H A (Borrow h (‵ Rest ∷ raw Token ∷ []))) (WpFn 𝓤 H C Λ function (vptr b o ∷ v ∷ vint w64 n ∷ []) Post)
     unfolding made
     runs =
-        W′.walk #lent·step-or-keep R′.mir τb τlog B′.mir (O.struct .name) τs 𝓤 H A W C Λ fm
+        W′.walk #steps·step R′.mir τb τlog B′.mir (O.struct .name) τs 𝓤 H A W C Λ fm
         A′.mir (size B′.mir) (size B′.mir + size A′.mir) field0 field1 field2
         B.the-row B′.lowered (B′.lowers .val-is) (LL.makes B.the-type B′.the-plain 𝓤 H A) (broker-typed 𝓤 H A W) cell
         κ q b o γ h v n (tt, tt) (shr-slice-lawful 𝓤 H A W (named 1) κ′ u8 .typed s (v ∷ []) log-is .0) (tt, record { fits = fits })
-        (sep 𝓤 (sem 𝓤 H A Rest) Token) (Inner 𝓤 H A at-mem run .pre to) (sem 𝓤 H A Log) Token (Inner 𝓤 H A at-mem run .post to) (known to) apart
+        (sep 𝓤 (sem 𝓤 H A Rest) Token) (Inner 𝓤 H A at-mem run .pre to) (sem 𝓤 H A Log) Token (Inner 𝓤 H A at-mem run .post to)
+        (known to) apart
         Came made gave Post (exits fits)
 
-    walk : ent 𝓤 (onEntry 𝓤 H A lent.signature (κ, (κ′, tt)) (q, (q′, tt)) x at) (WpFn 𝓤 H C Λ code.function (vptr b o ∷ v ∷ vint w64 n ∷ []) Post)
+    walk : ent 𝓤 (onEntry 𝓤 H A lent.signature (κ, (κ′, tt)) (q, (q′, tt)) x at)
+        (WpFn 𝓤 H C Λ code.function (vptr b o ∷ v ∷ vint w64 n ∷ []) Post)
     walk =
         qed W ((‵ (flft κ q) ⊛ raw Token) ∷ ‵ (owns (MutRef (named 0) κ B.the-row ∷ ShrSlice (named 1) κ′ u8 ∷ usize ∷ []) x at) ∷ []) ∵
         move ! (1 ∷ []) $ fsplit ! $ fsplit3 ! $ drop ! $ move ! (3 ∷ []) $ split ! $ move ! (2 ∷ 3 ∷ 0 ∷ 4 ∷ 1 ∷ []) $
-        by ! (subst (λ (f : Fn). ent 𝓤 (⋆ 𝓤 H A (Borrow h (‵ Rest ∷ raw Token ∷ []))) (WpFn 𝓤 H C Λ f (vptr b o ∷ v ∷ vint w64 n ∷ []) Post)) (sym code-is) runs)
+        by ! (subst (λ (f : Fn). ent 𝓤 (⋆ 𝓤 H A (Borrow h (‵ Rest ∷ raw Token ∷ [])))
+        (WpFn 𝓤 H C Λ f (vptr b o ∷ v ∷ vint w64 n ∷ []) Post)) (sym code-is) runs)
 
 module _ {M : Type 1} (𝓤 : URA M) (H : Heap 𝓤) (A : Atoms 𝓤) (W : Given 𝓤 H A) (at-mem : Memory → SProp 𝓤) (run : Routine → Fun 𝓤) where
-  step-lent-walks : (C : Calls 𝓤 H) (Λ : Loops 𝓤 H) → FmC 𝓤 H (W .laws) C → Triple 𝓤 (C #lent·step-or-keep) (Inner 𝓤 H A at-mem run) → Walks 𝓤 H A lent.ended stayed (WpFn 𝓤 H C Λ code.function) (lent.clauses 𝓤 H A at-mem run)
+  step-lent-walks : (C : Calls 𝓤 H) (Λ : Loops 𝓤 H) → FmC 𝓤 H (W .laws) C → Triple 𝓤 (C #steps·step) (Inner 𝓤 H A at-mem run) →
+      Walks 𝓤 H A lent.ended stayed (WpFn 𝓤 H C Λ code.function) (lent.clauses 𝓤 H A at-mem run)
   step-lent-walks C Λ fm known =
-      walked 𝓤 H A lent.ended stayed (lent.clauses 𝓤 H A at-mem run) (WpFn 𝓤 H C Λ code.function) (λ κs. (ptr-vals, (slice-vals, (uint-vals w64, tt)))) (λ κs. (mut-tells (named 0) (κs .0) B.the-row, (shr-slice-tells (named 1) (κs .1 .0) u8, (uint-tells w64, tt))))
-      (λ κs qs bounds a g are. via 𝓤 _ (fst∗ 𝓤 _ (emp 𝓤)) (walk 𝓤 H A W at-mem run (κs .0) (κs .1 .0) (qs .0) (qs .1 .0) (a .0 .ptr .0) (a .0 .ptr .1) (a .0 .name) (a .0 .now) (a .1 .0) (a .1 .1 .0) C Λ fm known (are .1 .0) (are .1 .1 .0 .1)))
+      walked 𝓤 H A lent.ended stayed (lent.clauses 𝓤 H A at-mem run) (WpFn 𝓤 H C Λ code.function)
+      (λ κs. (ptr-vals, (slice-vals, (uint-vals w64, tt))))
+      (λ κs. (mut-tells (named 0) (κs .0) B.the-row, (shr-slice-tells (named 1) (κs .1 .0) u8, (uint-tells w64, tt))))
+      (λ κs qs bounds a g are. via 𝓤 _ (fst∗ 𝓤 _ (emp 𝓤))
+      (walk 𝓤 H A W at-mem run (κs .0) (κs .1 .0) (qs .0) (qs .1 .0) (a .0 .ptr .0) (a .0 .ptr .1) (a .0 .name) (a .0 .now) (a .1 .0)
+      (a .1 .1 .0) C Λ fm known (are .1 .0) (are .1 .1 .0 .1)))
 
   goes : AllGo 𝓤 H A W 2 (lent.signature .params) (lent.ended .kept) stayed
-  goes = (goes-ref 𝓤 H A W 2 0 tt (plain (λ _. B.the-row)), (goes-none-slice 𝓤 H A W 2 (1 ∷ []) tt (plain (λ _. u8)) yes, (goes-none 𝓤 H A W 2 (λ _. usize) yes (λ κs x f. refl), tt)))
+  goes = (
+    goes-ref 𝓤 H A W 2 0 tt (plain (λ _. B.the-row)),
+    (goes-none-slice 𝓤 H A W 2 (1 ∷ []) tt (plain (λ _. u8)) yes, (goes-none 𝓤 H A W 2 (λ _. usize) yes (λ κs x f. refl), tt)),
+  )
 
-step-lent-meets : {M : Type 1} (𝓤 : URA M) (H : Heap 𝓤) (A : Atoms 𝓤) → Given 𝓤 H A → (at-mem : Memory → SProp 𝓤) (run : Routine → Fun 𝓤) (𝓣 : Tables 𝓤 H) → Triple 𝓤 (𝓣 .C #lent·step-or-keep) (Inner 𝓤 H A at-mem run)
+step-lent-meets : {M : Type 1} (𝓤 : URA M) (H : Heap 𝓤) (A : Atoms 𝓤) → Given 𝓤 H A →
+    (at-mem : Memory → SProp 𝓤) (run : Routine → Fun 𝓤) (𝓣 : Tables 𝓤 H) → Triple 𝓤 (𝓣 .C #steps·step) (Inner 𝓤 H A at-mem run)
     → Meets 𝓤 H A lent.signature (WpFn 𝓤 H (𝓣 .C) (𝓣 .Λ) code.function) (lent.spec 𝓤 H A at-mem run)
 step-lent-meets 𝓤 H A W at-mem run 𝓣 known =
     walk-meets 𝓤 H A lent.ended stayed W (goes 𝓤 H A W at-mem run) (lent.clauses 𝓤 H A at-mem run)
-    (WpFn 𝓤 H (𝓣 .C) (𝓣 .Λ) code.function) (WpFn-mono 𝓤 H (W .laws) 𝓣 code.function) (step-lent-walks 𝓤 H A W at-mem run (𝓣 .C) (𝓣 .Λ) (fmOf 𝓤 H (W .laws) 𝓣) known)
+    (WpFn 𝓤 H (𝓣 .C) (𝓣 .Λ) code.function) (WpFn-mono 𝓤 H (W .laws) 𝓣 code.function)
+    (step-lent-walks 𝓤 H A W at-mem run (𝓣 .C) (𝓣 .Λ) (fmOf 𝓤 H (W .laws) 𝓣) known)
 
 pub step-lent-spec : {M : Type 1} → stated.statement M
 unfolding code.routine tablesOf
@@ -255,4 +287,5 @@ step-lent-spec 𝓤 H 𝓜 𝓖 𝓡 =
     entered 𝓤 H (tripleOf 𝓤 H (𝓖 .A) lent.signature (lent.spec 𝓤 H (𝓖 .A) (𝓜 .mem) (𝓡 .run)))
     (tables 𝓤 H 𝓜 𝓡 code.env .C) (tables 𝓤 H 𝓜 𝓡 code.env .Λ) #lent·step-lent code.function (code.unfolded 𝓤 H 𝓜 𝓡)
     (step-lent-meets 𝓤 H (𝓖 .A) (givenOf 𝓤 H 𝓜 𝓖) (𝓜 .mem) (𝓡 .run) (tablesOf 𝓤 H 𝓜 (tables 𝓤 H 𝓜 𝓡 code.env))
-    (cited 𝓤 H (Inner 𝓤 H (𝓖 .A) (𝓜 .mem) (𝓡 .run)) 𝓜 𝓡 code.env #lent·step-or-keep inner-def.routine code.calls-lent·step-or-keep (inner-thm.met 𝓤 H 𝓜 𝓖 𝓡)))
+    (cited 𝓤 H (Inner 𝓤 H (𝓖 .A) (𝓜 .mem) (𝓡 .run)) 𝓜 𝓡 code.env #steps·step inner-def.routine code.calls-steps·step
+    (inner-thm.met 𝓤 H 𝓜 𝓖 𝓡)))
