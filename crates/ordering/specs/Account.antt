@@ -2,9 +2,6 @@
 use mathlib.Core.Path.{_≡_, refl, ap, _∙_}
 use mathlib.Core.Bool.{Bool, true, _&&_}
 use mathlib.Core.List.{List, [], _∷_, _++_}
-use Prim.Native.Nat.{ℕ}
-use lib.ListN.{getD}
-use Rattle.broker.specs.Answer.{number, values}
 use Rattle.broker.specs.Laws.Opened.{opened}
 use Rattle.broker.specs.Laws.Step.{step-of-sound, step-keeps-sound}
 use Rattle.broker.specs.Record.{decode}
@@ -14,25 +11,10 @@ use Rattle.broker.specs.Step.{Outcome, stepSound}
 use Rattle.ordering.specs.Claim.{Reading, Entry, stepAt, after, isAccepted, everyAccepted, entryOf, accepted}
 use Rattle.ordering.specs.Runs.{fresh-sound}
 
--- "per record: position, kind (two hexadecimal digits, upper case), number (0 when accepted), v1, v2, v3"
-abbrev pub line : Reading → Outcome → List ℕ
-line x o = x .at ∷ getD (x .log) (x .at) 0 ∷ number (o .answer) ∷ values (o .answer)
-
-abbrev pub printed : State → List Reading → List (List ℕ)
-printed s [] = []
-printed s (x ∷ xs) = line x (stepAt s x) ∷ printed (stepAt s x .state) xs
-
--- the position after each record
-abbrev pub nexts : State → List Reading → List ℕ
-nexts s [] = []
-nexts s (x ∷ xs) = stepAt s x .next ∷ nexts (stepAt s x .state) xs
-
--- the accepted steps, whether all are, a line for each step, the positions after them, and the state at the end
+-- the accepted steps, whether all are, and the state at the end
 pub record Account : Type 0 where
   pub steps : List Entry
   pub all : Bool
-  pub lines : List (List ℕ)
-  pub positions : List ℕ
   pub end : State
 
 abbrev pub account : State → List Reading → Account
@@ -40,8 +22,6 @@ account s xs =
     record {
       steps = accepted s xs;
       all = everyAccepted s xs;
-      lines = printed s xs;
-      positions = nexts s xs;
       end = after s xs;
     }
 
@@ -51,8 +31,6 @@ ahead x o t =
     record {
       steps = entryOf (o .answer) (decode (x .log) (x .at)) ++ t .steps;
       all = isAccepted (o .answer) && t .all;
-      lines = line x o ∷ t .lines;
-      positions = o .next ∷ t .positions;
       end = t .end;
     }
 

@@ -156,7 +156,8 @@ pub record SecondList (xs : List Reading) : Type 0 where
   pub same-steps : fiveKinds (accepted fresh list) ≡ fiveKinds (accepted fresh xs)
   pub same-taken : (a b : Rank) → taken a b (accepted fresh list) ≡ taken a b (accepted fresh xs)
   pub same-unread : (a b : Rank) → a .0 < 16 → b .0 < 16 → unread a b (after fresh list) ≡ unread a b (after fresh xs)
-  -- "Standing, and host and number of the current end (of the last vmid for an ended rank, none for an unstarted one)": a status is all of it
+  -- "Standing, and host and number of the current end (of the last vmid for an ended rank, none for an unstarted one)": a status is all
+  -- of it
   pub same-status : (r : Rank) → r .0 < 16 → status (after fresh list) r ≡ status (after fresh xs) r
 
 -- The second half: a list that leaves no move open has a second list.

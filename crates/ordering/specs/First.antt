@@ -37,7 +37,11 @@ send-balanced a b named s c d v =
     (by-test (sameRank c a) (λ e. by-test (sameRank d b) (λ f. rw (e, f)) (λ f. rw (e, f))) (λ e. rw e))
 
 -- A take takes the first value of its own pair, and leaves every other pair's.
-take-balanced : (a b named : Rank) (s : State) (d c : Rank) → sound s ≡ true → refusal s (Take d c) ≡ none → Balanced a b named s (Take d c)
+take-balanced :
+    (a b named : Rank) (s : State) (d c : Rank) →
+    sound s ≡ true →
+    refusal s (Take d c) ≡ none →
+    Balanced a b named s (Take d c)
 unfolding Balanced apply
 take-balanced a b named s d c sd p =
     by-test (sameRank c a)
@@ -74,7 +78,13 @@ balances-join t u v w x y z e f =
 abbrev Balances : Rank → Rank → State → List Entry → State → Type 0
 Balances a b s es end = taken a b es ++ unread a b end ≡ valuesBetween a b (core s) ++ sent a b es
 
-step-balances : (a b named : Rank) (s : State) (r : Record) → sound s ≡ true → refusal s r ≡ none → (es : List Entry) (end : State) → Balances a b (apply named r s .state) es end → Balances a b s (entry named r s ∷ es) end
+step-balances :
+    (a b named : Rank) (s : State) (r : Record) →
+    sound s ≡ true →
+    refusal s r ≡ none →
+    (es : List Entry) (end : State) →
+    Balances a b (apply named r s .state) es end →
+    Balances a b s (entry named r s ∷ es) end
 unfolding Balanced
 step-balances a b named s r h p es end rest =
     let e = entry named r s in
@@ -82,7 +92,16 @@ step-balances a b named s r h p es end rest =
     let here : taken a b (e ∷ []) ++ valuesBetween a b (core s′) ≡ valuesBetween a b (core s) ++ sent a b (e ∷ []) =
     ap (λ (c : Core). taken a b (e ∷ []) ++ valuesBetween a b c) (core-step named s r h p) ∙ step-balanced a b named s r h p in
     rw (taken-cons a b e es, sent-cons a b e es)
-    (balances-join (taken a b (e ∷ [])) (taken a b es) (valuesBetween a b (core s)) (valuesBetween a b (core s′)) (unread a b end) (sent a b (e ∷ [])) (sent a b es) here rest)
+    (balances-join
+    (taken a b (e ∷ []))
+    (taken a b es)
+    (valuesBetween a b (core s))
+    (valuesBetween a b (core s′))
+    (unread a b end)
+    (sent a b (e ∷ []))
+    (sent a b es)
+    here
+    rest)
 
 -- Nothing is unread in the fresh state.
 pub first-half : FirstHalf

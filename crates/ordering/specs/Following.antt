@@ -44,7 +44,11 @@ nothing-follows q quiet =
     }
 
 -- The same list where its takes are named in another way.
-pub follows-as : {moving : Option Rank} {q : State} {five : List Record} {takes takes′ : Rank → Rank → List ℕ} {c : Core} → ((a b : Rank) → takes a b ≡ takes′ a b) → Following moving q five takes c → Following moving q five takes′ c
+pub follows-as :
+    {moving : Option Rank} {q : State} {five : List Record} {takes takes′ : Rank → Rank → List ℕ} {c : Core} →
+    ((a b : Rank) → takes a b ≡ takes′ a b) →
+    Following moving q five takes c →
+    Following moving q five takes′ c
 follows-as e f =
     record {
       list = f .list;
@@ -61,21 +65,35 @@ abbrev pub Leads : Option Rank → Record → Option Rank → Type 0
 Leads moving r then = (l : List Record) → unbroken moving (r ∷ l) ≡ unbroken then l
 
 -- One accepted step in front.
-module _ {moving then : Option Rank} {five : List Record} {takes : Rank → Rank → List ℕ} {c : Core} (q : State) (x : Reading) (r : Record) (next : ℕ) where
-  pub step-follows : decode (x .log) (x .at) ≡ Whole r next → sound q ≡ true → refusal q r ≡ none → Leads moving r then → Following then (apply (x .named) r q .state) five takes c
-      → Following moving q (fiveKinds (entry (x .named) r q ∷ []) ++ five) (λ a b. taken a b (entry (x .named) r q ∷ []) ++ takes a b) c
-  step-follows reads h p leads f =
-      let e = entry (x .named) r q in
-      let es = accepted (apply (x .named) r q .state) (f .list) in
-      let enters = carried-enters q x (f .list) r next h reads p in
-      let leaves = carried-leaves q x (f .list) r next h reads p in
-      record {
-        list = x ∷ f .list;
-        all-accepted = rw (step-accepted (x .named) q (x .log) (x .at) r next h reads p) (f .all-accepted);
-        moves-unbroken = ap (λ (l : List Entry). unbroken moving (records l)) enters ∙ leads (records es) ∙ f .moves-unbroken;
-        same-five = ap fiveKinds enters ∙ five-cons e es ∙ ap (λ (l : List Record). fiveKinds (e ∷ []) ++ l) (f .same-five);
-        same-taken =
-            λ a b. ap (taken a b) enters ∙ taken-cons a b e es ∙ ap (λ (l : List ℕ). taken a b (e ∷ []) ++ l) (f .same-taken a b);
-        ends-quiet = subst Quiet (sym leaves) (f .ends-quiet);
-        ends-alike = ap core leaves ∙ f .ends-alike;
-      }
+module _
+    {moving then : Option Rank}
+    {five : List Record}
+    {takes : Rank → Rank → List ℕ}
+    {c : Core}
+    (q : State)
+    (x : Reading)
+    (r : Record)
+    (next : ℕ)
+  where
+    pub step-follows :
+        decode (x .log) (x .at) ≡ Whole r next →
+        sound q ≡ true →
+        refusal q r ≡ none →
+        Leads moving r then →
+        Following then (apply (x .named) r q .state) five takes c
+        → Following moving q (fiveKinds (entry (x .named) r q ∷ []) ++ five) (λ a b. taken a b (entry (x .named) r q ∷ []) ++ takes a b) c
+    step-follows reads h p leads f =
+        let e = entry (x .named) r q in
+        let es = accepted (apply (x .named) r q .state) (f .list) in
+        let enters = carried-enters q x (f .list) r next h reads p in
+        let leaves = carried-leaves q x (f .list) r next h reads p in
+        record {
+          list = x ∷ f .list;
+          all-accepted = rw (step-accepted (x .named) q (x .log) (x .at) r next h reads p) (f .all-accepted);
+          moves-unbroken = ap (λ (l : List Entry). unbroken moving (records l)) enters ∙ leads (records es) ∙ f .moves-unbroken;
+          same-five = ap fiveKinds enters ∙ five-cons e es ∙ ap (λ (l : List Record). fiveKinds (e ∷ []) ++ l) (f .same-five);
+          same-taken =
+              λ a b. ap (taken a b) enters ∙ taken-cons a b e es ∙ ap (λ (l : List ℕ). taken a b (e ∷ []) ++ l) (f .same-taken a b);
+          ends-quiet = subst Quiet (sym leaves) (f .ends-quiet);
+          ends-alike = ap core leaves ∙ f .ends-alike;
+        }

@@ -9,8 +9,6 @@ pub mod Second
 pub mod Ordering
 pub mod Open
 pub mod Account
+pub mod Worked
 pub mod Examples
 pub mod Listing
-pub mod Run
-pub mod RunLaws
-pub mod FromFresh

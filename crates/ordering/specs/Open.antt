@@ -22,7 +22,10 @@ openAfterAll r before [] = before
 openAfterAll r before (x ∷ xs) = openAfterAll r (openAfter r before x) xs
 
 -- A rank migrates where a move of it is open.
-pub migrating-is-open : (r : Rank) (xs : List Reading) (s : State) → sound s ≡ true → isMigrating (status (after s xs) r) ≡ openAfterAll r (isMigrating (status s r)) (records (accepted s xs))
+pub migrating-is-open :
+    (r : Rank) (xs : List Reading) (s : State) →
+    sound s ≡ true →
+    isMigrating (status (after s xs) r) ≡ openAfterAll r (isMigrating (status s r)) (records (accepted s xs))
 migrating-is-open r =
     along (λ s es end. isMigrating (status end r) ≡ openAfterAll r (isMigrating (status s r)) (records es))
     (λ s h. refl)

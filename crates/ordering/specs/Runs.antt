@@ -38,24 +38,43 @@ pub five-cons : (e : Entry) (es : List Entry) → fiveKinds (e ∷ es) ≡ fiveK
 five-cons e es = by-test (isFive (e .read)) (λ t. rw t) (λ t. rw t)
 
 -- A step that is carried out adds its entry, and the list goes on from the state that it leaves.
-module _ (s : State) (x : Reading) (xs : List Reading) (r : Record) (next : ℕ) (h : sound s ≡ true) (reads : decode (x .log) (x .at) ≡ Whole r next) (p : refusal s r ≡ none) where
-  pub carried-enters : accepted s (x ∷ xs) ≡ entry (x .named) r s ∷ accepted (apply (x .named) r s .state) xs
-  carried-enters = rw (step-accepted (x .named) s (x .log) (x .at) r next h reads p, reads)
+module _
+    (s : State)
+    (x : Reading)
+    (xs : List Reading)
+    (r : Record)
+    (next : ℕ)
+    (h : sound s ≡ true)
+    (reads : decode (x .log) (x .at) ≡ Whole r next)
+    (p : refusal s r ≡ none)
+  where
+    pub carried-enters : accepted s (x ∷ xs) ≡ entry (x .named) r s ∷ accepted (apply (x .named) r s .state) xs
+    carried-enters = rw (step-accepted (x .named) s (x .log) (x .at) r next h reads p, reads)
 
-  pub carried-leaves : after s (x ∷ xs) ≡ after (apply (x .named) r s .state) xs
-  carried-leaves = rw (step-accepted (x .named) s (x .log) (x .at) r next h reads p)
+    pub carried-leaves : after s (x ∷ xs) ≡ after (apply (x .named) r s .state) xs
+    carried-leaves = rw (step-accepted (x .named) s (x .log) (x .at) r next h reads p)
 
 -- What holds of no steps, and of one accepted step more in front, holds of every list of steps from a sound state.
 module _
     (P : State → List Entry → State → Type 0)
     (no-steps : (s : State) → sound s ≡ true → P s [] s)
-    (one-more : (s : State) (x : Reading) (r : Record) (next : ℕ) → sound s ≡ true → decode (x .log) (x .at) ≡ Whole r next → refusal s r ≡ none → (es : List Entry) (end : State) → P (apply (x .named) r s .state) es end → P s (entry (x .named) r s ∷ es) end)
+    (one-more :
+    (s : State) (x : Reading) (r : Record) (next : ℕ) →
+    sound s ≡ true →
+    decode (x .log) (x .at) ≡ Whole r next →
+    refusal s r ≡ none →
+    (es : List Entry) (end : State) →
+    P (apply (x .named) r s .state) es end →
+    P s (entry (x .named) r s ∷ es) end)
   where
     pub along : (xs : List Reading) (s : State) → sound s ≡ true → P s (accepted s xs) (after s xs)
     along [] s h = no-steps s h
     along (x ∷ xs) s h = at (course (x .named) s (x .log) (x .at)) (along xs)
       where
-        at : Course (x .named) s (x .log) (x .at) → ((t : State) → sound t ≡ true → P t (accepted t xs) (after t xs)) → P s (accepted s (x ∷ xs)) (after s (x ∷ xs))
+        at :
+            Course (x .named) s (x .log) (x .at) →
+            ((t : State) → sound t ≡ true → P t (accepted t xs) (after t xs)) →
+            P s (accepted s (x ∷ xs)) (after s (x ∷ xs))
         at (turned-away n t) rest =
             let enters : accepted s (x ∷ xs) ≡ accepted s xs = rw t in
             let leaves : after s (x ∷ xs) ≡ after s xs = rw t in

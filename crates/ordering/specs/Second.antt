@@ -30,7 +30,14 @@ use Rattle.ordering.specs.Sends.{send-stands}
 use Rattle.ordering.specs.Stands.{Standing, nothing-stands, start-stands, take-stands, move-stands, end-stands}
 
 -- What stands for any accepted step.
-stands : (s q : State) (x : Reading) (r : Record) (next : ℕ) → sound s ≡ true → Quiet q → core q ≡ core s → decode (x .log) (x .at) ≡ Whole r next → refusal s r ≡ none → Standing s q x r
+stands :
+    (s q : State) (x : Reading) (r : Record) (next : ℕ) →
+    sound s ≡ true →
+    Quiet q →
+    core q ≡ core s →
+    decode (x .log) (x .at) ≡ Whole r next →
+    refusal s r ≡ none →
+    Standing s q x r
 stands s q x (Start r h) next hs quiet same reads p = start-stands s q x next quiet same r h reads p
 stands s q x (Call a b) next hs quiet same reads p = nothing-stands s q x (Call a b) quiet refl refl (λ c d. refl)
 stands s q x (Route a b) next hs quiet same reads p = nothing-stands s q x (Route a b) quiet refl refl (λ c d. refl)
@@ -49,7 +56,14 @@ abbrev Followed : State → List Entry → State → Type 0
 Followed s es end =
     (q : State) → Quiet q → core q ≡ core s → Following none q (fiveKinds es) (λ a b. taken a b es) (core end)
 
-step-followed : (s : State) (x : Reading) (r : Record) (next : ℕ) → sound s ≡ true → decode (x .log) (x .at) ≡ Whole r next → refusal s r ≡ none → (es : List Entry) (end : State) → Followed (apply (x .named) r s .state) es end → Followed s (entry (x .named) r s ∷ es) end
+step-followed :
+    (s : State) (x : Reading) (r : Record) (next : ℕ) →
+    sound s ≡ true →
+    decode (x .log) (x .at) ≡ Whole r next →
+    refusal s r ≡ none →
+    (es : List Entry) (end : State) →
+    Followed (apply (x .named) r s .state) es end →
+    Followed s (entry (x .named) r s ∷ es) end
 step-followed s x r next h reads p es end rest q quiet same =
     let e = entry (x .named) r s in
     let now = stands s q x r next h quiet same reads p in

@@ -42,7 +42,10 @@ module _ (s : State) (a b : Rank) (v : ℕ) (hs : sound s ≡ true) (p : refusal
     is-sound : sound then ≡ true
     joined : Joined then a b
     alike : core then ≡ core s
-    follows : (five : List Record) (takes : Rank → Rank → List ℕ) (c : Core) → Following none then five takes c → Following none x five takes c
+    follows :
+        (five : List Record) (takes : Rank → Rank → List ℕ) (c : Core) →
+        Following none then five takes c →
+        Following none x five takes c
 
   -- One route.
   module _ (x : State) (u : Vmid) (calling : Calling x a b u) (h : sound x ≡ true) (same : core x ≡ core s) where
@@ -63,7 +66,10 @@ module _ (s : State) (a b : Rank) (v : ℕ) (hs : sound s ≡ true) (p : refusal
     unfolding routed
     routed-alike = core-step (rank 0) x (Route a b) h routes ∙ same
 
-    routed-follows : (five : List Record) (takes : Rank → Rank → List ℕ) (c : Core) → Following none routed five takes c → Following none x five takes c
+    routed-follows :
+        (five : List Record) (takes : Rank → Rank → List ℕ) (c : Core) →
+        Following none routed five takes c →
+        Following none x five takes c
     unfolding routed decode
     routed-follows five takes c f = step-follows x (ofTwo Kind.route a b) (Route a b) 3 refl h routes (λ l. refl) f
 
@@ -94,7 +100,8 @@ module _ (s : State) (a b : Rank) (v : ℕ) (hs : sound s ≡ true) (p : refusal
       let again : Calling y a b (endpoint (status x b)) = corrects x u calling h same e in
       let same′ : core y ≡ core s = routed-alike x u calling h same in
       let still : status y b ≡ status x b =
-      status-alike s y (same-standings same′) again b (two .second) ∙ sym (status-alike s x (same-standings same) calling b (two .second)) in
+      status-alike s y (same-standings same′) again b (two .second) ∙
+      sym (status-alike s x (same-standings same) calling b (two .second)) in
       let current = ap (λ (t : Status). sameVmid (endpoint (status x b)) (endpoint t)) still ∙ sameVmid-self (endpoint (status x b)) in
       let w = joins y (endpoint (status x b)) again (routed-sound x u calling h same) same′ current in
       record {
@@ -105,7 +112,12 @@ module _ (s : State) (a b : Rank) (v : ℕ) (hs : sound s ≡ true) (p : refusal
         follows = λ five takes c f. routed-follows x u calling h same five takes c (w .follows five takes c f);
       })
 
-  pub send-stands : (q : State) (x : Reading) (next : ℕ) → Quiet q → core q ≡ core s → decode (x .log) (x .at) ≡ Whole (Send a b v) next → Standing s q x (Send a b v)
+  pub send-stands :
+      (q : State) (x : Reading) (next : ℕ) →
+      Quiet q →
+      core q ≡ core s →
+      decode (x .log) (x .at) ≡ Whole (Send a b v) next →
+      Standing s q x (Send a b v)
   unfolding apply decode
   send-stands q x next quiet same reads =
       let calls = call-before s a b v p q (same-standings same) (quiet .calm) in

@@ -44,7 +44,13 @@ pub record Standing (s q : State) (x : Reading) (r : Record) : Type 0 where
       → Following none q (fiveKinds (entry (x .named) r s ∷ []) ++ five) (λ a b. taken a b (entry (x .named) r s ∷ []) ++ takes a b) c
 
 -- Nothing stands for a record that leaves the core and is none of the five.
-pub nothing-stands : (s q : State) (x : Reading) (r : Record) → Quiet q → coreStep r (core q) ≡ core q → fiveKinds (entry (x .named) r s ∷ []) ≡ [] → ((a b : Rank) → taken a b (entry (x .named) r s ∷ []) ≡ []) → Standing s q x r
+pub nothing-stands :
+    (s q : State) (x : Reading) (r : Record) →
+    Quiet q →
+    coreStep r (core q) ≡ core q →
+    fiveKinds (entry (x .named) r s ∷ []) ≡ [] →
+    ((a b : Rank) → taken a b (entry (x .named) r s ∷ []) ≡ []) →
+    Standing s q x r
 nothing-stands s q x r quiet same five takes =
     record {
       then = q;
@@ -54,12 +60,24 @@ nothing-stands s q x r quiet same five takes =
     }
 
 -- A state that is calm behind an accepted record is quiet.
-pub quiet-after : (named : Rank) (q : State) (r : Record) → sound q ≡ true → refusal q r ≡ none → AllQuiet (apply named r q .state) → Quiet (apply named r q .state)
+pub quiet-after :
+    (named : Rank) (q : State) (r : Record) →
+    sound q ≡ true →
+    refusal q r ≡ none →
+    AllQuiet (apply named r q .state) →
+    Quiet (apply named r q .state)
 quiet-after named q r h p calm = record { is-sound = sound-kept named q r h p; calm = calm }
 
 module _ (s q : State) (x : Reading) (next : ℕ) (quiet : Quiet q) (same : core q ≡ core s) where
   -- The record stands as it is, where it is accepted from q, leaves all calm, and takes what it takes from s.
-  itself-stands : (r : Record) → decode (x .log) (x .at) ≡ Whole r next → refusal q r ≡ none → Leads none r none → ((a b : Rank) → taken a b (entry (x .named) r q ∷ []) ≡ taken a b (entry (x .named) r s ∷ [])) → AllQuiet (apply (x .named) r q .state) → Standing s q x r
+  itself-stands :
+      (r : Record) →
+      decode (x .log) (x .at) ≡ Whole r next →
+      refusal q r ≡ none →
+      Leads none r none →
+      ((a b : Rank) → taken a b (entry (x .named) r q ∷ []) ≡ taken a b (entry (x .named) r s ∷ [])) →
+      AllQuiet (apply (x .named) r q .state) →
+      Standing s q x r
   itself-stands r reads p leads takes calm =
       record {
         then = apply (x .named) r q .state;
@@ -71,7 +89,11 @@ module _ (s q : State) (x : Reading) (next : ℕ) (quiet : Quiet q) (same : core
             (step-follows q x r next reads (quiet .is-sound) p leads f);
       }
 
-  pub start-stands : (r : Rank) (h : ℕ) → decode (x .log) (x .at) ≡ Whole (Start r h) next → refusal s (Start r h) ≡ none → Standing s q x (Start r h)
+  pub start-stands :
+      (r : Rank) (h : ℕ) →
+      decode (x .log) (x .at) ≡ Whole (Start r h) next →
+      refusal s (Start r h) ≡ none →
+      Standing s q x (Start r h)
   unfolding apply
   start-stands r h reads p =
       itself-stands (Start r h) reads (start-again s q same (quiet .calm) r h p) (λ l. refl) (λ a b. refl)
@@ -84,7 +106,12 @@ module _ (s q : State) (x : Reading) (next : ℕ) (quiet : Quiet q) (same : core
       (end-calm q r (quiet .calm) (end-fits s r (passes s (End r) p) .one .in-range))
 
   -- A take answers the same value from both.
-  pub take-stands : (b a : Rank) → sound s ≡ true → decode (x .log) (x .at) ≡ Whole (Take b a) next → refusal s (Take b a) ≡ none → Standing s q x (Take b a)
+  pub take-stands :
+      (b a : Rank) →
+      sound s ≡ true →
+      decode (x .log) (x .at) ≡ Whole (Take b a) next →
+      refusal s (Take b a) ≡ none →
+      Standing s q x (Take b a)
   unfolding apply
   take-stands b a hs reads p =
       let p′ = take-again s q same (quiet .calm) b a p in
@@ -95,7 +122,11 @@ module _ (s q : State) (x : Reading) (next : ℕ) (quiet : Quiet q) (same : core
       (take-calm q b a (quiet .calm))
 
   -- No line stands when the rank moves, so that it lands at once.
-  pub move-stands : (r : Rank) (h : ℕ) → decode (x .log) (x .at) ≡ Whole (Move r h) next → refusal s (Move r h) ≡ none → Standing s q x (Move r h)
+  pub move-stands :
+      (r : Rank) (h : ℕ) →
+      decode (x .log) (x .at) ≡ Whole (Move r h) next →
+      refusal s (Move r h) ≡ none →
+      Standing s q x (Move r h)
   unfolding apply decode
   move-stands r h reads p =
       let p′ = move-again s q same (quiet .calm) r h p in
