@@ -1,0 +1,39 @@
+-- Worked lines: of records, and of pairs in their order. Computed from the definitions. Assumes nothing.
+use mathlib.Core.Path.{_≡_, refl}
+use mathlib.Core.List.{List, [], _∷_, _++_}
+use Prim.Native.Nat.{ℕ}
+use Rattle.transit.specs.declared.Message.{Message}
+use Rattle.transit.specs.declared.Place.{Place}
+use Rattle.transit.specs.declared.Place.the-variants.{SourceList, SourceChannel, List as EndList, Channel}
+use Rattle.page.specs.Ascii.{asciiLines}
+use Rattle.page.specs.Text.{decimal}
+use Rattle.broker.specs.Ranks.{rank}
+use Rattle.broker.specs.declared.answer.Answer.the-variants.{Accepted, Refused}
+use Rattle.broker.specs.declared.answer.Refusal.the-variants.{UnknownKind}
+use Rattle.lines.specs.Lines.{recordLine, pairLine, pairLines}
+
+-- a message from a to b at a place
+abbrev unread : ℕ → ℕ → Place → Message
+unread a b p = record { sender = rank a; receiver = rank b; value = 7; place = p }
+
+-- in order of sending
+abbrev messages : List Message
+messages =
+    unread 1 0 Channel ∷
+    unread 0 12 EndList ∷
+    unread 0 1 SourceList ∷
+    unread 0 1 SourceChannel ∷
+    unread 0 1 SourceChannel ∷ []
+
+-- "ascending by sender and receiver"
+pub pairs-ascend :
+    pairLines messages ≡ asciiLines ("pair 0 1 1 2 0 0" ∷ "pair 0 12 0 0 1 0" ∷ "pair 1 0 0 0 0 1" ∷ [])
+unfolding pairLines pairLine decimal
+pairs-ascend = refl
+
+-- "kind (two hexadecimal digits, upper case), number (0 when accepted)"
+pub record-lines :
+    recordLine 19 0x0A (Accepted 0 1 0) ++ recordLine 307 0xBF (Refused UnknownKind) ≡
+    asciiLines ("19 0A 0 0 1 0" ∷ "307 BF 2 0 0 0" ∷ [])
+unfolding recordLine decimal
+record-lines = refl

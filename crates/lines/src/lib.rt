@@ -1,0 +1,61 @@
+// The lines of a printed run, straight onto a page that has room for them. Paper 01, "The printed run".
+ghost use mathlib.Core.List.{_∷_, []};
+ghost use Prim.Native.Nat.{_+_, _≤_};
+ghost use lib.ListN.{length};
+ghost use Rattle.lines.specs.Lines.{recordLine, recordRoom, pairLine, pairRoom, endLine, endRoom};
+ghost use Rattle.page.specs.Put.{Put};
+use broker::answer::Answer;
+use page::put_byte;
+use page::put_decimal;
+use page::put_four_bytes;
+use page::put_four_numbers;
+use page::put_hex;
+use page::put_two_numbers;
+
+// Position, kind, number, v1, v2, v3.
+pub fn record_line(page: &mut [u8], used: usize, position: u64, kind: u8, answer: Answer) -> usize
+    requires { ⌜ used + recordRoom ≤ length (now page) ⌝ }
+    ensures { λ r. ⌜ Put recordRoom (now (page .entry)) used (recordLine position kind answer) (now (page .exit)) r ⌝ }
+{
+    let number = answer.number();
+    let values = answer.values();
+    let mut at = put_decimal(page, used, position);
+    at = put_hex(page, at, kind);
+    at = put_four_numbers(
+        page,
+        at,
+        number as u64,
+        values.0 as u64,
+        values.1 as u64,
+        values.2 as u64,
+    );
+    put_byte(page, at, b'\n')
+}
+
+// `pair`, the sender a, the receiver b, and the counts at places 0 to 3.
+pub fn pair_line(
+    page: &mut [u8],
+    used: usize,
+    a: u64,
+    b: u64,
+    first: u64,
+    second: u64,
+    third: u64,
+    fourth: u64,
+) -> usize
+    requires { ⌜ used + pairRoom ≤ length (now page) ⌝ }
+    ensures { λ r. ⌜ Put pairRoom (now (page .entry)) used (pairLine a b (first ∷ second ∷ third ∷ fourth ∷ [])) (now (page .exit)) r ⌝ }
+{
+    let mut at = put_four_bytes(page, used, b'p', b'a', b'i', b'r');
+    at = put_two_numbers(page, at, a, b);
+    at = put_four_numbers(page, at, first, second, third, fourth);
+    put_byte(page, at, b'\n')
+}
+
+// `end`.
+pub fn end_line(page: &mut [u8], used: usize) -> usize
+    requires { ⌜ used + endRoom ≤ length (now page) ⌝ }
+    ensures { λ r. ⌜ Put endRoom (now (page .entry)) used endLine (now (page .exit)) r ⌝ }
+{
+    put_four_bytes(page, used, b'e', b'n', b'd', b'\n')
+}

@@ -1,0 +1,115 @@
+-- `page::put_decimal` meets its contract. The loop's invariant: the digits of what is left, put in front of the page as it is, make the
+-- page that all digits make; they end where the page is written next. Assumes nothing.
+use mathlib.Core.Path.{_≡_, refl, _∙_}
+use Prim.Native.Nat.{_+_, _≤_}
+use native.Mathlib.Omega.{arith}
+use borrow.Author.Needs.{needs}
+use lib.ListN.{length, set}
+use lib.Seq.{sets, length-sets}
+use Rattle.page.specs.Laws.Digits.{two-first, decimal-put}
+use Rattle.page.specs.Laws.Text.{decimal-one, decimal-pair, length-of-word, length-two}
+use Rattle.page.specs.Text.{decimal}
+use Rattle.page.proofs.put_decimal.Statement.{statement}
+use Rattle.page.proofs.put_decimal.Tie as tie
+
+abbrev Inv-loop : tie.InvT-loop
+Inv-loop page₀ used n end at₀ rest₀ page at rest =
+    (sets page used (decimal rest) ≡ sets page₀ used (decimal n)) ×
+    (at ≡ used + length (decimal rest)) ×
+    (length (decimal rest) ≤ 20) ×
+    (length page ≡ length page₀)
+
+abbrev μ-loop : tie.MeasureT-loop
+μ-loop page₀ used n end at₀ rest₀ page at rest = rest
+
+width-requires : tie.Need-width-requires Inv-loop μ-loop
+width-requires c κs = search needs
+
+add-end : tie.Need-add-end Inv-loop μ-loop
+add-end c = omega (arith, length-of-word (c .before .before .args .n) (omega arith))
+
+loop-holds : tie.Need-loop-holds Inv-loop μ-loop
+loop-holds c = (refl, omega arith, length-of-word (c .before .before .args .n) (omega arith), refl)
+
+sub-at : tie.Need-sub-at Inv-loop μ-loop
+sub-at c = omega (arith, length-two (c .before .loop .rest) (omega arith))
+
+put-two-digits-requires : tie.Need-put-two-digits-requires Inv-loop μ-loop
+put-two-digits-requires c κs = search needs
+
+loop-less : tie.Need-loop-less Inv-loop μ-loop
+loop-less c = search needs
+
+loop-again : tie.Need-loop-again Inv-loop μ-loop
+loop-again c =
+    let put = c .before .before .put-two-digits in
+    let head = c .before .before .before .before .before in
+    let used = head .before .before .before .args .used in
+    let here = head .loop in
+    let more : 100 ≤ here .rest = omega arith in
+    let two = length-two (here .rest) more in
+    let digits = two-first (here .page) used (here .rest) (here .at) more (here .inv .1) in
+    (rw (put .ensures) (digits ∙ here .inv .0), omega arith, omega arith, rw (put .ensures, length-sets) (here .inv .3))
+
+put-two-digits-requires-2 : tie.Need-put-two-digits-requires-2 Inv-loop μ-loop
+put-two-digits-requires-2 c κs = search needs
+
+cast-page : tie.Need-cast-page Inv-loop μ-loop
+cast-page c = search needs
+
+add-page : tie.Need-add-page Inv-loop μ-loop
+add-page c = search needs
+
+slice-write-page : tie.Need-slice-write-page Inv-loop μ-loop
+slice-write-page c = search needs
+
+same-length : tie.Need-same-length Inv-loop μ-loop
+same-length c = search needs
+
+returns : tie.Need-returns Inv-loop μ-loop
+returns c =
+    let put = c .before .before .put-two-digits2 in
+    let head = c .before .before .before .before .before .before in
+    let args = head .before .before .before .args in
+    let pair = decimal-pair (head .loop .rest) (omega arith) (omega arith) in
+    let end = args .used + head .before .width .result in
+    decimal-put (args .page .now) (args .used) (args .n) (put .last .0) end
+    (omega arith)
+    (put .ensures ∙ (rw pair at (head .loop .inv .0)))
+    (omega arith)
+
+same-length-2 : tie.Need-same-length-2 Inv-loop μ-loop
+same-length-2 c = search needs
+
+returns-2 : tie.Need-returns-2 Inv-loop μ-loop
+returns-2 c =
+    let head = c .before .before in
+    let args = head .before .before .before .args in
+    let one = decimal-one (head .loop .rest) (omega arith) in
+    let end = args .used + head .before .width .result in
+    decimal-put (args .page .now) (args .used) (args .n) (set (head .loop .page) (args .used) (48 + head .loop .rest)) end
+    (omega arith)
+    (rw one at (head .loop .inv .0))
+    (omega arith)
+
+pub put-decimal-spec : {M : Type 1} → statement M
+put-decimal-spec =
+    tie.close
+    (tie.spec
+    Inv-loop
+    μ-loop
+    width-requires
+    add-end
+    loop-holds
+    sub-at
+    put-two-digits-requires
+    loop-less
+    loop-again
+    put-two-digits-requires-2
+    cast-page
+    add-page
+    slice-write-page
+    same-length
+    returns
+    same-length-2
+    returns-2)

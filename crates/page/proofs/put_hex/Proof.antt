@@ -1,0 +1,44 @@
+-- `page::put_hex` meets its contract: three puts in a row. Assumes nothing.
+use borrow.Author.Needs.{needs}
+use Rattle.page.specs.Laws.Put.{_then_}
+use Rattle.page.proofs.put_hex.Statement.{statement}
+use Rattle.page.proofs.put_hex.Tie as tie
+
+put-byte-requires : tie.Need-put-byte-requires
+put-byte-requires c κs = search needs
+
+hex-digit-requires : tie.Need-hex-digit-requires
+hex-digit-requires c κs = search needs
+
+put-byte-requires-2 : tie.Need-put-byte-requires-2
+put-byte-requires-2 c κs = search needs
+
+hex-digit-requires-2 : tie.Need-hex-digit-requires-2
+hex-digit-requires-2 c κs = search needs
+
+put-byte-requires-3 : tie.Need-put-byte-requires-3
+put-byte-requires-3 c κs = search needs
+
+same-length : tie.Need-same-length
+same-length c = search needs
+
+returns : tie.Need-returns
+returns c =
+    let last = c .before .before in
+    let mid = last .before .before .before .before .before in
+    let first = mid .before .before .before .before .before in
+    let high = rw (mid .before .hex-digit .ensures) at (mid .put-byte2 .ensures) in
+    let low = rw (last .before .hex-digit2 .ensures) at (last .put-byte3 .ensures) in
+    first .put-byte .ensures then high then low
+
+pub put-hex-spec : {M : Type 1} → statement M
+put-hex-spec =
+    tie.close
+    (tie.spec
+    put-byte-requires
+    hex-digit-requires
+    put-byte-requires-2
+    hex-digit-requires-2
+    put-byte-requires-3
+    same-length
+    returns)

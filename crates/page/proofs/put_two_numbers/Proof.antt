@@ -1,0 +1,26 @@
+-- `page::put_two_numbers` meets its contract: two puts in a row. Assumes nothing.
+use borrow.Author.Needs.{needs}
+use Rattle.page.specs.Laws.Put.{_then_}
+use Rattle.page.specs.Laws.Text.{numbers-two}
+use Rattle.page.proofs.put_two_numbers.Statement.{statement}
+use Rattle.page.proofs.put_two_numbers.Tie as tie
+
+put-number-requires : tie.Need-put-number-requires
+put-number-requires c κs = search needs
+
+put-number-requires-2 : tie.Need-put-number-requires-2
+put-number-requires-2 c κs = search needs
+
+same-length : tie.Need-same-length
+same-length c = search needs
+
+returns : tie.Need-returns
+returns c =
+    let second = c .before .before in
+    let first = second .before .before .before .before in
+    let args = first .before .before .before .args in
+    rw (numbers-two (args .a) (args .b)) at (first .put-number .ensures then second .put-number2 .ensures)
+
+pub put-two-numbers-spec : {M : Type 1} → statement M
+put-two-numbers-spec =
+    tie.close (tie.spec put-number-requires put-number-requires-2 same-length returns)
