@@ -1,0 +1,75 @@
+-- `printout::buffer::keep_rest` meets its contract. The loop's invariant: the bytes so far are moved, and the others are as they were.
+-- Assumes nothing.
+use mathlib.Core.Path.{_≡_, refl}
+use Prim.Native.Nat.{_-_, _≤_}
+use native.Mathlib.Numerals.{add-one}
+use native.Mathlib.Omega.{arith}
+use borrow.Author.Needs.{needs}
+use lib.ListN.{length, length-set}
+use Rattle.printout.specs.Laws.Buffer.{moving, one-moved, all-moved}
+use Rattle.printout.proofs.buffer.keep_rest.Statement.{statement}
+use Rattle.printout.proofs.buffer.keep_rest.Tie as tie
+
+abbrev Inv-loop : tie.InvT-loop
+Inv-loop buffer₀ from held kept₀ buffer kept =
+    (buffer ≡ moving buffer₀ from held kept) × (kept ≤ held - from) × (length buffer ≡ length buffer₀)
+
+abbrev μ-loop : tie.MeasureT-loop
+μ-loop buffer₀ from held kept₀ buffer kept = held - kept
+
+loop-holds : tie.Need-loop-holds Inv-loop μ-loop
+loop-holds c = (refl, omega arith, refl)
+
+add-loop : tie.Need-add-loop Inv-loop μ-loop
+add-loop c = search needs
+
+add-buffer : tie.Need-add-buffer Inv-loop μ-loop
+add-buffer c = search needs
+
+slice-read-buffer : tie.Need-slice-read-buffer Inv-loop μ-loop
+slice-read-buffer c = search needs
+
+slice-write-buffer : tie.Need-slice-write-buffer Inv-loop μ-loop
+slice-write-buffer c = search needs
+
+add-kept : tie.Need-add-kept Inv-loop μ-loop
+add-kept c = search needs
+
+loop-less : tie.Need-loop-less Inv-loop μ-loop
+loop-less c = search needs
+
+loop-again : tie.Need-loop-again Inv-loop μ-loop
+loop-again c =
+    let head = c .before .before in
+    let args = head .before .args in
+    let kept = head .loop .kept in
+    let inv = head .loop .inv in
+    let moved = one-moved (args .buffer .now) (args .from) (args .held) (omega arith) (omega arith) kept (omega arith) in
+    (rw (inv .0, add-one kept) moved, omega arith, rw length-set (inv .2))
+
+same-length : tie.Need-same-length Inv-loop μ-loop
+same-length c = search needs
+
+returns : tie.Need-returns Inv-loop μ-loop
+returns c =
+    let head = c .before in
+    let args = head .before .args in
+    let all : head .loop .kept ≡ args .held - args .from = omega arith in
+    rw (head .loop .inv .0, all) (all-moved (args .buffer .now) (args .from) (args .held) (omega arith) (omega arith))
+
+pub keep-rest-spec : {M : Type 1} → statement M
+keep-rest-spec =
+    tie.close
+    (tie.spec
+    Inv-loop
+    μ-loop
+    loop-holds
+    add-loop
+    add-buffer
+    slice-read-buffer
+    slice-write-buffer
+    add-kept
+    loop-less
+    loop-again
+    same-length
+    returns)

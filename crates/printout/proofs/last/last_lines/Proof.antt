@@ -1,0 +1,66 @@
+-- `printout::last::last_lines` meets its contract. The loop's invariant: the lines of the senders so far are put. Assumes nothing.
+use mathlib.Core.Path.{_≡_}
+use Prim.Native.Nat.{_*_, _-_, _≤_}
+use native.Mathlib.Numerals.{add-one}
+use native.Mathlib.Omega.{arith}
+use borrow.Author.Needs.{needs}
+use Rattle.lines.specs.Lines.{linesOfSender, pairLines, textsBelow}
+use Rattle.broker.specs.Ranks.{ranks}
+use Rattle.printout.specs.Last.{PutOf, senderRoom}
+use Rattle.printout.specs.Laws.Last.{none-said, said-of-any, and-then, said-in}
+use Rattle.printout.proofs.last.last_lines.Statement.{statement}
+use Rattle.printout.proofs.last.last_lines.Tie as tie
+
+abbrev Inv-loop : tie.InvT-loop
+Inv-loop page₀ used slots at₀ a₀ page at a =
+    PutOf (senderRoom * a) page₀ used slots (λ l. textsBelow a (linesOfSender l)) page at × (a ≤ ranks)
+
+abbrev μ-loop : tie.MeasureT-loop
+μ-loop page₀ used slots at₀ a₀ page at a = ranks - a
+
+loop-holds : tie.Need-loop-holds Inv-loop μ-loop
+loop-holds c = (none-said, omega arith)
+
+lines-of-sender-requires : tie.Need-lines-of-sender-requires Inv-loop μ-loop
+lines-of-sender-requires c κs = (omega arith, omega arith)
+
+add-a : tie.Need-add-a Inv-loop μ-loop
+add-a c = search needs
+
+loop-less : tie.Need-loop-less Inv-loop μ-loop
+loop-less c = search needs
+
+loop-again : tie.Need-loop-again Inv-loop μ-loop
+loop-again c =
+    let lines = c .before .before in
+    let head = lines .before .before .before in
+    (rw (add-one (head .loop .a)) (said-in (omega arith) (and-then (head .loop .inv .0) (lines .lines-of-sender .ensures))), omega arith)
+
+end-line-requires : tie.Need-end-line-requires Inv-loop μ-loop
+end-line-requires c κs = search needs
+
+same-length : tie.Need-same-length Inv-loop μ-loop
+same-length c = search needs
+
+returns : tie.Need-returns Inv-loop μ-loop
+unfolding pairLines
+returns c =
+    let last = c .before .before in
+    let head = last .before .before .before in
+    let all : head .loop .a ≡ ranks = omega arith in
+    and-then (rw all at (head .loop .inv .0)) (said-of-any (last .end-line .ensures))
+
+pub last-lines-spec : {M : Type 1} → statement M
+last-lines-spec =
+    tie.close
+    (tie.spec
+    Inv-loop
+    μ-loop
+    loop-holds
+    lines-of-sender-requires
+    add-a
+    loop-less
+    loop-again
+    end-line-requires
+    same-length
+    returns)

@@ -1,0 +1,100 @@
+-- `printout::last::lines_of_pair` meets its contract: nothing where the pair has nothing unread, and else its line. Assumes nothing.
+use mathlib.Core.List.{List, [], _∷_}
+use mathlib.Core.Path.{_≡_, sym, _∙_}
+use Prim.Native.Nat.{ℕ}
+use native.Mathlib.Omega.{arith}
+use borrow.Author.Needs.{needs}
+use Rattle.transit.specs.Mail.{messagesIn}
+use Rattle.page.specs.Laws.Put.{nothing, at-most}
+use Rattle.lines.specs.Laws.Parts.{no-line, one-line}
+use Rattle.lines.specs.Lines.{pairLine, countsAtPlaces}
+use Rattle.printout.proofs.last.lines_of_pair.Statement.{statement}
+use Rattle.printout.proofs.last.lines_of_pair.Tie as tie
+
+unread-between-requires : tie.Need-unread-between-requires
+unread-between-requires c κs = search needs
+
+returns : tie.Need-returns
+returns c =
+    let between = c .before in
+    let args = between .before .before .args in
+    record {
+      text = [];
+      put = at-most (omega arith) nothing;
+      same = λ contents held.
+          no-line (messagesIn (args .slots .now) contents) (args .a) (args .b)
+          (sym (between .unread-between .ensures contents held) ∙ c .if1 .taken);
+    }
+
+count-at-requires : tie.Need-count-at-requires
+count-at-requires c κs = search needs
+
+count-at-requires-2 : tie.Need-count-at-requires-2
+count-at-requires-2 c κs = search needs
+
+count-at-requires-3 : tie.Need-count-at-requires-3
+count-at-requires-3 c κs = search needs
+
+count-at-requires-4 : tie.Need-count-at-requires-4
+count-at-requires-4 c κs = search needs
+
+cast-pair-line : tie.Need-cast-pair-line
+cast-pair-line c = search needs
+
+cast-pair-line-2 : tie.Need-cast-pair-line-2
+cast-pair-line-2 c = search needs
+
+cast-pair-line-3 : tie.Need-cast-pair-line-3
+cast-pair-line-3 c = search needs
+
+cast-pair-line-4 : tie.Need-cast-pair-line-4
+cast-pair-line-4 c = search needs
+
+pair-line-requires : tie.Need-pair-line-requires
+pair-line-requires c κs = search needs
+
+same-length : tie.Need-same-length
+same-length c = search needs
+
+returns-2 : tie.Need-returns-2
+returns-2 c =
+    let line = c .before .before in
+    let fourth = line .before .before in
+    let third = fourth .before in
+    let second = third .before in
+    let first = second .before in
+    let else = first .before in
+    let between = else .before in
+    let args = between .before .before .args in
+    let counts : List ℕ = first .count-at .result ∷ second .count-at2 .result ∷ third .count-at3 .result ∷ fourth .count-at4 .result ∷ [] in
+    record {
+      text = pairLine (args .a) (args .b) counts;
+      put = line .pair-line .ensures;
+      same = λ contents held.
+          let l = messagesIn (args .slots .now) contents in
+          one-line l (args .a) (args .b) (λ none. else .if1 .left (between .unread-between .ensures contents held ∙ none)) counts
+          (rw (
+            first .count-at .ensures contents held,
+            second .count-at2 .ensures contents held,
+            third .count-at3 .ensures contents held,
+            fourth .count-at4 .ensures contents held,
+          ));
+    }
+
+pub lines-of-pair-spec : {M : Type 1} → statement M
+lines-of-pair-spec =
+    tie.close
+    (tie.spec
+    unread-between-requires
+    returns
+    count-at-requires
+    count-at-requires-2
+    count-at-requires-3
+    count-at-requires-4
+    cast-pair-line
+    cast-pair-line-2
+    cast-pair-line-3
+    cast-pair-line-4
+    pair-line-requires
+    same-length
+    returns-2)

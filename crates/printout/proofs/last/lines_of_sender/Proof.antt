@@ -1,0 +1,59 @@
+-- `printout::last::lines_of_sender` meets its contract. The loop's invariant: the lines of the receivers so far are put. Assumes nothing.
+use mathlib.Core.Path.{_≡_}
+use Prim.Native.Nat.{_*_, _-_, _≤_}
+use native.Mathlib.Numerals.{add-one}
+use native.Mathlib.Omega.{arith}
+use borrow.Author.Needs.{needs}
+use Rattle.lines.specs.Lines.{linesOfPair, pairRoom, textsBelow}
+use Rattle.broker.specs.Ranks.{ranks}
+use Rattle.printout.specs.Last.{PutOf}
+use Rattle.printout.specs.Laws.Last.{none-said, and-then, said-in}
+use Rattle.printout.proofs.last.lines_of_sender.Statement.{statement}
+use Rattle.printout.proofs.last.lines_of_sender.Tie as tie
+
+abbrev Inv-loop : tie.InvT-loop
+Inv-loop page₀ used a slots at₀ b₀ page at b =
+    PutOf (pairRoom * b) page₀ used slots (λ l. textsBelow b (linesOfPair l a)) page at × (b ≤ ranks)
+
+abbrev μ-loop : tie.MeasureT-loop
+μ-loop page₀ used a slots at₀ b₀ page at b = ranks - b
+
+loop-holds : tie.Need-loop-holds Inv-loop μ-loop
+loop-holds c = (none-said, omega arith)
+
+lines-of-pair-requires : tie.Need-lines-of-pair-requires Inv-loop μ-loop
+lines-of-pair-requires c κs = ((omega arith, omega arith), omega arith)
+
+add-b : tie.Need-add-b Inv-loop μ-loop
+add-b c = search needs
+
+loop-less : tie.Need-loop-less Inv-loop μ-loop
+loop-less c = search needs
+
+loop-again : tie.Need-loop-again Inv-loop μ-loop
+loop-again c =
+    let line = c .before .before in
+    let head = line .before .before .before in
+    (rw (add-one (head .loop .b)) (said-in (omega arith) (and-then (head .loop .inv .0) (line .lines-of-pair .ensures))), omega arith)
+
+same-length : tie.Need-same-length Inv-loop μ-loop
+same-length c = search needs
+
+returns : tie.Need-returns Inv-loop μ-loop
+returns c =
+    let all : c .before .loop .b ≡ ranks = omega arith in
+    rw all at (c .before .loop .inv .0)
+
+pub lines-of-sender-spec : {M : Type 1} → statement M
+lines-of-sender-spec =
+    tie.close
+    (tie.spec
+    Inv-loop
+    μ-loop
+    loop-holds
+    lines-of-pair-requires
+    add-b
+    loop-less
+    loop-again
+    same-length
+    returns)

@@ -1,0 +1,153 @@
+-- `printout::piece::run_piece` meets its contract. The loop's invariant: so many whole records are run, and the page shows their lines.
+-- Assumes nothing.
+use mathlib.Core.Path.{_≡_, sym, _∙_}
+use Prim.Native.Nat.{_-_}
+use native.Mathlib.Numerals.{add-one}
+use native.Mathlib.Omega.{arith}
+use borrow.Author.Needs.{needs}
+use lib.ListN.{length}
+use Rattle.broker.specs.Step.{Settlement}
+use Rattle.steps.specs.Record.{at-end}
+use Rattle.checks.specs.Desk.{deskOf, Desk}
+use Rattle.printout.specs.Laws.Ran.{some-none, some-more}
+use Rattle.printout.specs.Laws.Window.{passes}
+use Rattle.printout.specs.Ran.{RanSome}
+use Rattle.printout.proofs.piece.run_piece.Statement.{statement}
+use Rattle.printout.proofs.piece.run_piece.Tie as tie
+use Rattle.printout.proofs.piece.run_piece.Reads as reads
+use Rattle.printout.proofs.piece.run_piece.Lts as lts
+use Rattle.lines.proofs.record_line.Reads as record-line-reads
+use Rattle.settle.proofs.settle.Reads as settle-reads
+use Rattle.steps.proofs.decode.decode.Reads as decode-reads
+
+abbrev Inv-loop : tie.InvT-loop
+Inv-loop piece base page₀ slots₀ contents₀ roster₀ at₀ used₀ steps₀ page slots contents roster at used steps =
+    Desk slots contents roster ×
+    RanSome (deskOf slots₀ contents₀ roster₀) piece base (length page₀) (deskOf slots contents roster) at used steps page
+
+abbrev μ-loop : tie.MeasureT-loop
+μ-loop piece base page₀ slots₀ contents₀ roster₀ at₀ used₀ steps₀ page slots contents roster at used steps =
+    length piece - at
+
+loop-holds : tie.Need-loop-holds Inv-loop μ-loop
+loop-holds c =
+    let start = c .before .before in
+    let args = start .args in
+    let held = deskOf (args .slots .now) (args .contents .now) (args .roster .now) in
+    (start .pre .0, some-none held (args .piece .now) (args .base) (args .page .now))
+
+sub-if1 : tie.Need-sub-if1 Inv-loop μ-loop
+sub-if1 c = search needs
+
+same-length : tie.Need-same-length Inv-loop μ-loop
+same-length c = search needs
+
+returns : tie.Need-returns Inv-loop μ-loop
+returns c =
+    let inv = c .before .before .loop .inv in
+    (inv .0, (inv .1, omega arith))
+
+decode-requires : tie.Need-decode-requires Inv-loop μ-loop
+decode-requires c κs = search needs
+
+enum-known-decoded : tie.Need-enum-known-decoded Inv-loop μ-loop
+enum-known-decoded c = search needs
+
+shared-slice-read-kind : tie.Need-shared-slice-read-kind Inv-loop μ-loop
+shared-slice-read-kind c = search needs
+
+settle-requires : tie.Need-settle-requires Inv-loop μ-loop
+settle-requires c κs = search needs
+
+add-record-line : tie.Need-add-record-line Inv-loop μ-loop
+add-record-line c = search needs
+
+record-line-requires : tie.Need-record-line-requires Inv-loop μ-loop
+record-line-requires c κs = search needs
+
+add-steps : tie.Need-add-steps Inv-loop μ-loop
+add-steps c = search needs
+
+loop-less : tie.Need-loop-less Inv-loop μ-loop
+loop-less c =
+    let arm = c .before .before .before .before .before .before .before .before .before .before in
+    let decode = arm .before .before in
+    let head = decode .before .before .before in
+    let piece = head .before .before .before .args .piece .now in
+    let past = passes piece (head .loop .at) _ _ (sym (decode .decode .ensures) ∙ arm .decoded .given .1) in
+    omega arith
+
+loop-again : tie.Need-loop-again Inv-loop μ-loop
+loop-again c =
+    let line = c .before .before in
+    let settle = line .before .before in
+    let arm = settle .before .before .before .before .before .before in
+    let decode = arm .before .before in
+    let head = decode .before .before .before in
+    let whole = sym (decode .decode .ensures) ∙ arm .decoded .given .1 in
+    let done = settle .settle .ensures in (
+      done .kept,
+      rw (add-one (head .loop .steps))
+          (some-more (head .loop .inv .1) _ _ whole _ (done .same) _ _ (line .record-line .ensures) (omega arith)),
+    )
+
+enum-told : tie.Need-enum-told Inv-loop μ-loop
+enum-told c = search needs
+
+same-length-2 : tie.Need-same-length-2 Inv-loop μ-loop
+same-length-2 c = search needs
+
+returns-2 : tie.Need-returns-2 Inv-loop μ-loop
+returns-2 c =
+    let decode = c .before .before in
+    let inv = decode .before .before .before .loop .inv in
+    (inv .0, (inv .1, sym (decode .decode .ensures) ∙ c .enum-told .given .1))
+
+enum-told-2 : tie.Need-enum-told-2 Inv-loop μ-loop
+enum-told-2 c = search needs
+
+same-length-3 : tie.Need-same-length-3 Inv-loop μ-loop
+same-length-3 c = search needs
+
+returns-3 : tie.Need-returns-3 Inv-loop μ-loop
+returns-3 c =
+    let decode = c .before .before in
+    let inv = decode .before .before .before .loop .inv in
+    (inv .0, (inv .1, sym (decode .decode .ensures) ∙ c .enum-told2 .given .1))
+
+same-length-4 : tie.Need-same-length-4 Inv-loop μ-loop
+same-length-4 c = search needs
+
+returns-4 : tie.Need-returns-4 Inv-loop μ-loop
+returns-4 c =
+    let head = c .before in
+    let piece = head .before .before .before .args .piece .now in
+    (head .loop .inv .0, (head .loop .inv .1, at-end piece (head .loop .at) (omega arith)))
+
+pub run-piece-spec : {M : Type 1} → statement M
+run-piece-spec =
+    tie.close
+    (tie.spec
+    Inv-loop
+    μ-loop
+    loop-holds
+    sub-if1
+    same-length
+    returns
+    decode-requires
+    enum-known-decoded
+    shared-slice-read-kind
+    settle-requires
+    add-record-line
+    record-line-requires
+    add-steps
+    loop-less
+    loop-again
+    enum-told
+    same-length-2
+    returns-2
+    enum-told-2
+    same-length-3
+    returns-3
+    same-length-4
+    returns-4)

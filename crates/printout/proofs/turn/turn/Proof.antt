@@ -1,0 +1,174 @@
+-- `printout::turn::turn` meets its contract: by what is next, as the laws of a turn have it. Assumes nothing.
+use mathlib.Core.Logic.{⊎-elim}
+use mathlib.Core.Path.{_≡_, refl, sym, _∙_}
+use native.Mathlib.Omega.{arith}
+use borrow.Author.Needs.{needs}
+use lib.Seq.{length-take-le}
+use Rattle.printout.specs.Laws.Turn.{turn-again, turn-on, turn-ends}
+use Rattle.printout.specs.Turn.{nextOf}
+use Rattle.printout.specs.declared.turn.Next.the-variants.{End}
+use Rattle.printout.proofs.turn.turn.Statement.{statement}
+use Rattle.printout.proofs.turn.turn.Tie as tie
+use Rattle.printout.proofs.turn.turn.Reads as reads
+use Rattle.printout.proofs.turn.turn.Lts as lts
+use Rattle.printout.proofs.buffer.keep_rest.Reads as keep-rest-reads
+use Rattle.printout.proofs.ending.run_end.Reads as run-end-reads
+use Rattle.printout.proofs.piece.run_piece.Reads as run-piece-reads
+use Rattle.printout.proofs.turn.next_of.Reads as next-of-reads
+
+returns : tie.Need-returns
+returns c =
+    let pre = c .before .before .before .pre in (
+      pre .0,
+      record {
+        shows = λ ok. record { stays = ok; prints = λ more may. refl };
+        because = c .if1 .taken;
+        exact = refl;
+        holds = omega arith;
+        fits = omega arith;
+        keeps = (refl, refl);
+      },
+    )
+
+slice-reshare-prefix-run-piece : tie.Need-slice-reshare-prefix-run-piece
+slice-reshare-prefix-run-piece c = search needs
+
+slice-aggregate-run-piece : tie.Need-slice-aggregate-run-piece
+slice-aggregate-run-piece c =
+    let start = c .before .before .before .before in
+    sym (length-take-le (start .args .held) (start .args .buffer .now) (start .pre .1 .0))
+
+run-piece-requires : tie.Need-run-piece-requires
+run-piece-requires c κs =
+    let start = c .before .before .before .before .before .before .before .before in
+    (start .pre .0, omega (arith, length-take-le (start .args .held) (start .args .buffer .now) (start .pre .1 .0)))
+
+keep-rest-requires : tie.Need-keep-rest-requires
+keep-rest-requires c κs =
+    let ran = c .before .before .before in
+    let start = ran .before .before .before .before .before .before .before .before .before in (
+      omega
+          (arith, ran .run-piece .ensures .1 .0 .inside, length-take-le (start .args .held) (start .args .buffer .now) (start .pre .1 .0)),
+      start .pre .1 .0,
+    )
+
+add-further : tie.Need-add-further
+add-further c =
+    let ran = c .before .before .before .before .before .before in
+    let start = ran .before .before .before .before .before .before .before .before .before in
+    omega (arith, ran .run-piece .ensures .1 .0 .inside, length-take-le (start .args .held) (start .args .buffer .now) (start .pre .1 .0))
+
+next-of-requires : tie.Need-next-of-requires
+next-of-requires c κs = search needs
+
+enum-told : tie.Need-enum-told
+enum-told c = search needs
+
+sub-if2 : tie.Need-sub-if2
+sub-if2 c = search needs
+
+same-length : tie.Need-same-length
+same-length c = search needs
+
+same-length-2 : tie.Need-same-length-2
+same-length-2 c = search needs
+
+returns-2 : tie.Need-returns-2
+returns-2 c =
+    let rest = c .before .before .before .before .before .before in
+    let ran = rest .before .before .before .before in
+    let near = ran .before .before .before .before .before .before in
+    let start = near .before .before .before in
+    let piece = ran .run-piece .ensures in (
+      piece .0,
+      turn-again (piece .1 .0) (rest .keep-rest .ensures) (start .pre .1 .0) (start .pre .1 .2) (near .if1 .left) (start .args .done)
+          (omega arith),
+    )
+
+slice-reshare-prefix-run-end : tie.Need-slice-reshare-prefix-run-end
+slice-reshare-prefix-run-end c = search needs
+
+slice-aggregate-run-end : tie.Need-slice-aggregate-run-end
+slice-aggregate-run-end c =
+    let rest = c .before .before .before .before .before .before .before .before in
+    let ran = rest .before .before .before .before in
+    let start = ran .before .before .before .before .before .before .before .before .before in
+    let kept = rest .keep-rest .ensures in
+    sym (length-take-le (rest .keep-rest .result) (rest .keep-rest .last .0) (omega (arith, kept .counts, kept .room, start .pre .1 .0)))
+
+run-end-requires : tie.Need-run-end-requires
+run-end-requires c κs = search needs
+
+same-length-3 : tie.Need-same-length-3
+same-length-3 c = search needs
+
+same-length-4 : tie.Need-same-length-4
+same-length-4 c = search needs
+
+returns-3 : tie.Need-returns-3
+returns-3 c =
+    let ended = c .before .before in
+    let space = ended .before .before .before .before in
+    let told = space .before in
+    let next = told .before .before in
+    let rest = next .before .before .before in
+    let ran = rest .before .before .before .before in
+    let near = ran .before .before .before .before .before .before in
+    let start = near .before .before .before in
+    let piece = ran .run-piece .ensures in
+    let end = ended .run-end .ensures in (
+      piece .0,
+      turn-ends (piece .1 .0) (rest .keep-rest .ensures) (start .pre .1 .0) (start .pre .1 .2) (near .if1 .left) (end .put)
+          (omega (arith, space .if2 .left))
+          (end .same _ (piece .0 .mail)) (ran .run-piece .result .stop) (start .args .done) (piece .1 .1)
+          (sym (next .next-of .ensures) ∙ told .enum-told .given .1),
+    )
+
+same-length-5 : tie.Need-same-length-5
+same-length-5 c = search needs
+
+same-length-6 : tie.Need-same-length-6
+same-length-6 c = search needs
+
+returns-4 : tie.Need-returns-4
+returns-4 c =
+    let next = c .before in
+    let rest = next .before .before .before in
+    let ran = rest .before .before .before .before in
+    let near = ran .before .before .before .before .before .before in
+    let start = near .before .before .before in
+    let piece = ran .run-piece .ensures in (
+      piece .0,
+      rw (next .next-of .ensures)
+          (turn-on (piece .1 .0) (rest .keep-rest .ensures) (start .pre .1 .0) (start .pre .1 .2) (near .if1 .left)
+          (ran .run-piece .result .stop) (start .args .done) (piece .1 .1)
+          (λ e.
+          let same : next .next-of .result ≡ End = next .next-of .ensures ∙ e in
+          ⊎-elim (λ k. omega arith) (λ others. ⊎-elim (λ k. omega arith) (λ k. omega arith) others) (rw same at (c .match .keys2)))),
+    )
+
+pub turn-spec : {M : Type 1} → statement M
+turn-spec =
+    tie.close
+    (tie.spec
+    returns
+    slice-reshare-prefix-run-piece
+    slice-aggregate-run-piece
+    run-piece-requires
+    keep-rest-requires
+    add-further
+    next-of-requires
+    enum-told
+    sub-if2
+    same-length
+    same-length-2
+    returns-2
+    slice-reshare-prefix-run-end
+    slice-aggregate-run-end
+    run-end-requires
+    same-length-3
+    same-length-4
+    returns-3
+    same-length-5
+    same-length-6
+    returns-4)

@@ -1,0 +1,13 @@
+-- The laws of a printed run: what stands in a part of a log, the whole records of a log, how a run ends, the run by steps, its text, runs
+-- in pieces, the buffer between them, and the ordering claim.
+pub mod Window
+pub mod Wholes
+pub mod Ending
+pub mod Steps
+pub mod Text
+pub mod Pieces
+pub mod Ran
+pub mod Last
+pub mod Buffer
+pub mod Turn
+pub mod Ordering

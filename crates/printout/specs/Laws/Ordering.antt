@@ -1,0 +1,93 @@
+-- The ordering claim for what a run from the fresh state leaves: the steps that the run takes are a list of steps, and it leaves what
+-- the list leaves; after any number of whole records, and after a run in pieces. Paper 01, "Lists of steps". Assumes nothing.
+use mathlib.Core.Path.{_≡_, refl, ap, sym, _∙_}
+use mathlib.Core.Bool.{true, cond}
+use mathlib.Core.List.{List, [], _∷_, _++_, map}
+use Prim.Native.Nat.{ℕ, zero, suc, _<_}
+use lib.Dec.{ltb}
+use lib.ListN.{length}
+use Rattle.transit.specs.Laws.Tests.{by-test}
+use Rattle.transit.specs.declared.Rank.{Rank}
+use Rattle.broker.specs.Record.{decode}
+use Rattle.broker.specs.State.{State, fresh}
+use Rattle.ordering.specs.Claim.{Reading, SecondList, after, accepted, taken, sent, unread, noMoveOpen}
+use Rattle.ordering.specs.Ordering.{ordering}
+use Rattle.ordering.specs.Runs.{fresh-sound}
+use Rattle.printout.specs.Laws.Pieces.{run-in-pieces}
+use Rattle.printout.specs.Laws.Steps.{same-state}
+use Rattle.printout.specs.Pieces.{Turn, allBytes, inPieces}
+use Rattle.printout.specs.Run.{Answered, Came, Naming, nameIn, stepBy, stops, runLog}
+use Rattle.printout.specs.Wholes.{wholes}
+
+-- the reading of one step of a run
+abbrev pub reading : Naming → State → List ℕ → ℕ → Reading
+reading named s log at = record { log = log; at = at; named = nameIn named s (decode log at) }
+
+-- the steps that a run takes, so many at most
+abbrev pub readings : Naming → ℕ → State → List ℕ → ℕ → List Reading
+readings named zero s log at = []
+readings named (suc n) s log at =
+    let o = stepBy named s log at in
+    cond (ltb at (length log))
+    (reading named s log at ∷ cond (stops (o .answer)) [] (readings named n (o .state) log (o .next)))
+    []
+
+module _ (named : Naming) where
+  -- They stand where the answers of the run stand.
+  pub readings-stand :
+      (n : ℕ) (s : State) (log : List ℕ) (at : ℕ) →
+      map (λ (x : Reading). x .at) (readings named n s log at) ≡ map (λ (a : Answered). a .at) (runLog named n s log at .answers)
+  unfolding runLog
+  readings-stand zero s log at = refl
+  readings-stand (suc n) s log at =
+      let o = stepBy named s log at in
+      let later = readings-stand n (o .state) log (o .next) in
+      by-test (ltb at (length log))
+      (λ t. by-test (stops (o .answer)) (λ u. rw (t, u)) (λ u. rw (t, u) (ap (λ (ns : List ℕ). at ∷ ns) later)))
+      (λ t. rw t)
+
+  -- They leave the state that the run leaves.
+  readings-leave :
+      (n : ℕ) (s : State) (log : List ℕ) (at : ℕ) → after s (readings named n s log at) ≡ runLog named n s log at .state
+  unfolding runLog
+  readings-leave zero s log at = refl
+  readings-leave (suc n) s log at =
+      let o = stepBy named s log at in
+      let later = readings-leave n (o .state) log (o .next) in
+      by-test (ltb at (length log))
+      (λ t. by-test (stops (o .answer)) (λ u. rw (t, u)) (λ u. rw (t, u) later))
+      (λ t. rw t)
+
+  -- both halves of the claim, for the first steps of a log and the state that they leave: what was taken and then what is unread is what
+  -- was sent, and where no move is open there is a second list
+  pub record Ordered (n : ℕ) (log : List ℕ) (s : State) : Type 0 where
+    pub first-half :
+        (a b : Rank) →
+        a .0 < 16 →
+        b .0 < 16 →
+        taken a b (accepted fresh (readings named n fresh log 0)) ++ unread a b s ≡
+        sent a b (accepted fresh (readings named n fresh log 0))
+    pub second-half : noMoveOpen s ≡ true → SecondList (readings named n fresh log 0)
+
+  -- They hold of what a run leaves.
+  run-ordered : (n : ℕ) (log : List ℕ) (s : State) → runLog named n fresh log 0 .state ≡ s → Ordered n log s
+  run-ordered n log s e =
+      let steps = readings named n fresh log 0 in
+      let leave : after fresh steps ≡ s = readings-leave n fresh log 0 ∙ e in
+      record {
+        first-half = λ a b ha hb. rw leave at (ordering .first-half steps a b ha hb);
+        second-half = λ h. ordering .second-half steps (rw leave h);
+      }
+
+  -- They hold of what so many whole records of a log leave.
+  pub wholes-ordered : (n : ℕ) (log : List ℕ) → Ordered n log (wholes named 0 n fresh log 0 .state)
+  wholes-ordered n log =
+      run-ordered n log (wholes named 0 n fresh log 0 .state) (same-state named log n fresh 0 fresh-sound)
+
+  -- They hold of what a run in pieces leaves.
+  pub pieces-ordered :
+      (ts : List Turn) → let log = allBytes ts in Ordered (length log) log (inPieces named 0 fresh [] ts .state)
+  pieces-ordered ts =
+      let log = allBytes ts in
+      let c = inPieces named 0 fresh [] ts in
+      run-ordered (length log) log (c .state) (ap (λ (c : Came). c .state) (sym (run-in-pieces named ts fresh fresh-sound)))

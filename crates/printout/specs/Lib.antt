@@ -1,0 +1,11 @@
+-- The printed run of a log, whole and in pieces, and the laws of it. Paper 01, "The printed run".
+pub mod Run
+pub mod Printed
+pub mod Wholes
+pub mod Pieces
+pub mod Ran
+pub mod Last
+pub mod Buffer
+pub mod Turn
+pub mod Laws
+pub mod Listing

@@ -1,0 +1,41 @@
+-- What a run of a piece of the input comes to, beside the page and on it. Paper 01, "The printed run". Assumes nothing.
+use mathlib.Core.Bool.{true}
+use mathlib.Core.List.{List}
+use mathlib.Core.Path.{_≡_}
+use Prim.Native.Nat.{ℕ, _+_, _*_, _≤_, _<_}
+use lib.ListN.{length, take}
+use Rattle.lines.specs.Lines.{recordRoom}
+use Rattle.broker.specs.Record.{decode}
+use Rattle.broker.specs.Sound.{sound}
+use Rattle.broker.specs.State.{State}
+use Rattle.broker.specs.declared.record.Decoded.the-variants.{Unknown, Cut}
+use Rattle.checks.specs.Look.{nameFor}
+use Rattle.printout.specs.Printed.{linesOf}
+use Rattle.printout.specs.Run.{Answered, Came}
+use Rattle.printout.specs.Wholes.{wholes}
+use Rattle.printout.specs.declared.piece.Stop.{Stop}
+use Rattle.printout.specs.declared.piece.Stop.the-variants.{PageFull, KindUnknown, RecordCut}
+
+-- so many whole records of a piece are run from a state: the state, the position and the answers are those of the definition, the state
+-- is sound, and the text has the answers' lines
+pub record Ran (s : State) (piece : List ℕ) (base steps : ℕ) (state : State) (at : ℕ) (text : List ℕ) : Type 0 where
+  pub answers : List Answered
+  pub came : _≡_ {A = Came} (record { state = state; at = at; answers = answers }) (wholes nameFor base steps s piece 0)
+  pub counted : length answers ≡ steps
+  pub stays : sound state ≡ true
+  pub shown : text ≡ linesOf answers
+
+-- why it stops: the page has no room for another line, or no whole record stands there
+abbrev pub Stops : Stop → List ℕ → ℕ → ℕ → ℕ → Type 0
+Stops PageFull piece at used room = room < used + recordRoom
+Stops KindUnknown piece at used room = decode piece at ≡ Unknown
+Stops RecordCut piece at used room = decode piece at ≡ Cut
+
+-- some whole records of a piece are run, where the state was sound, and a page of so many bytes shows their lines
+pub record RanSome (s : State) (piece : List ℕ) (base room : ℕ) (state : State) (at used steps : ℕ) (page : List ℕ) : Type 0 where
+  pub ran : sound s ≡ true → Ran s piece base steps state at (take used page)
+  pub inside : at ≤ length piece
+  pub fits : used ≤ length page
+  pub keeps : length page ≡ room
+  pub taken : used ≤ recordRoom * at
+  pub moved : steps ≤ at
