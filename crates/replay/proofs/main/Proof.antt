@@ -1,0 +1,227 @@
+-- `replay::main` is safe and ends. The loop's invariant: the arrays hold a desk, the buffer and the page are as long as they were, and no
+-- turn begins too far ahead. Assumes nothing.
+use mathlib.Core.List.{[]}
+use mathlib.Core.Path.{_≡_, sym, _∙_}
+use Prim.Native.Nat.{_≤_}
+use native.Mathlib.Omega.{arith}
+use borrow.Author.Needs.{needs}
+use lib.ListN.{length, take}
+use lib.Seq.{length-take-le}
+use Rattle.checks.specs.Desk.{Desk}
+use Rattle.printout.specs.Turn.{bufferRoom, Because}
+use Rattle.printout.specs.declared.turn.Next.the-variants.{Again, Read}
+use Rattle.replay.specs.Fill.{Fills}
+use Rattle.replay.specs.declared.Fill.the-variants.{Held}
+use Rattle.replay.specs.Ends.{last, ahead, less-behind, less-unread}
+use Rattle.replay.proofs.main.Statement.{statement}
+use Rattle.replay.proofs.main.Tie as tie
+
+abbrev Inv-loop : tie.InvT-loop
+Inv-loop buffer₀ page₀ slots₀ contents₀ roster₀ held₀ base₀ done₀ t14 t15 t16 buffer page slots contents roster held base done =
+    Desk slots contents roster ×
+    (length buffer ≡ bufferRoom) ×
+    (length page ≡ bufferRoom) ×
+    (held ≤ bufferRoom) ×
+    (base ≤ last)
+
+abbrev μ-loop : tie.MeasureT-loop
+μ-loop buffer₀ page₀ slots₀ contents₀ roster₀ held₀ base₀ done₀ t14 t15 t16 buffer page slots contents roster held base done =
+    ahead held base done
+
+large-buffer-requires : tie.Need-large-buffer-requires Inv-loop μ-loop
+large-buffer-requires c κs = search needs
+
+large-buffer-requires-2 : tie.Need-large-buffer-requires-2 Inv-loop μ-loop
+large-buffer-requires-2 c κs = search needs
+
+open-fresh-requires : tie.Need-open-fresh-requires Inv-loop μ-loop
+open-fresh-requires c κs = search needs
+
+loop-holds : tie.Need-loop-holds Inv-loop μ-loop
+loop-holds c =
+    let second = c .before .before .before .before in
+    (c .open-fresh .ensures .desk, sym (second .before .large-buffer .ensures), sym (second .large-buffer2 .ensures), omega arith, omega arith)
+
+slice-aggregate-turn : tie.Need-slice-aggregate-turn Inv-loop μ-loop
+slice-aggregate-turn c = search needs
+
+slice-aggregate-turn-2 : tie.Need-slice-aggregate-turn-2 Inv-loop μ-loop
+slice-aggregate-turn-2 c = search needs
+
+turn-requires : tie.Need-turn-requires Inv-loop μ-loop
+turn-requires c κs =
+    let inv = c .before .before .before .before .before .loop .inv in
+    (inv .0, (omega arith, omega arith, omega arith))
+
+array-share-prefix-page : tie.Need-array-share-prefix-page Inv-loop μ-loop
+array-share-prefix-page c = search needs
+
+slice-aggregate-write-all : tie.Need-slice-aggregate-write-all Inv-loop μ-loop
+slice-aggregate-write-all c =
+    let turn = c .before .before .before in
+    sym (length-take-le (turn .turn .result .used) _ (turn .turn .ensures .1 .fits))
+
+write-all-requires : tie.Need-write-all-requires Inv-loop μ-loop
+write-all-requires c κs = search needs
+
+slice-aggregate-tell : tie.Need-slice-aggregate-tell Inv-loop μ-loop
+slice-aggregate-tell c = search needs
+
+tell-requires : tie.Need-tell-requires Inv-loop μ-loop
+tell-requires c κs = search needs
+
+returns : tie.Need-returns Inv-loop μ-loop
+returns c = search needs
+
+enum-told : tie.Need-enum-told Inv-loop μ-loop
+enum-told c = search needs
+
+-- Another turn follows at once.
+again :
+    (c : tie.After-enum-told Inv-loop μ-loop) →
+    let turn = c .before .before .before .before .before .before .before in
+    let loop = turn .before .before .before .before .before .before .loop in
+    Because Again (loop .base) (loop .done) [] (turn .turn .result)
+again c = rw (c .enum-told .given .1) at (c .before .before .before .before .before .before .before .turn .ensures .1 .because)
+
+loop-less : tie.Need-loop-less Inv-loop μ-loop
+loop-less c =
+    let turn = c .before .before .before .before .before .before .before in
+    let loop = turn .before .before .before .before .before .before .loop in
+    let next = turn .turn .result in
+    less-behind (loop .held) (loop .base) (next .held) (next .base) (turn .turn .ensures .1 .exact) (loop .inv .3) (loop .inv .4)
+    (loop .done) (again c .2)
+
+loop-again : tie.Need-loop-again Inv-loop μ-loop
+loop-again c =
+    let turn = c .before .before .before .before .before .before .before in
+    let inv = turn .before .before .before .before .before .before .loop .inv in
+    let turned = turn .turn .ensures .1 in (
+      turn .turn .ensures .0,
+      turned .keeps .0 ∙ inv .1,
+      turned .keeps .1 ∙ inv .2,
+      omega (arith, turned .holds, inv .3),
+      omega (arith, turned .exact, again c .0, inv .3),
+    )
+
+enum-told-2 : tie.Need-enum-told-2 Inv-loop μ-loop
+enum-told-2 c = search needs
+
+slice-aggregate-read-more : tie.Need-slice-aggregate-read-more Inv-loop μ-loop
+slice-aggregate-read-more c = search needs
+
+read-more-requires : tie.Need-read-more-requires Inv-loop μ-loop
+read-more-requires c κs = search needs
+
+enum-known-filled : tie.Need-enum-known-filled Inv-loop μ-loop
+enum-known-filled c = search needs
+
+-- Input is asked for, and read.
+asked :
+    (c : tie.After-enum-told2 Inv-loop μ-loop) →
+    let turn = c .before .before .before .before .before .before .before in
+    let loop = turn .before .before .before .before .before .before .loop in
+    Because Read (loop .base) (loop .done) (take (turn .turn .result .held) (turn .turn .last .0)) (turn .turn .result)
+asked c = rw (c .enum-told2 .given .1) at (c .before .before .before .before .before .before .before .turn .ensures .1 .because)
+
+filled :
+    (c : tie.After-filled Inv-loop μ-loop) →
+    let read = c .before .before .before in
+    let turn = read .before .before .before .before .before .before .before .before .before in
+    Fills (turn .turn .result .held) (length (turn .turn .last .0)) (Held (c .filled .given .0 .0))
+filled c = rw (c .filled .given .1) at (c .before .before .before .read-more .ensures .0)
+
+loop-less-2 : tie.Need-loop-less-2 Inv-loop μ-loop
+loop-less-2 c =
+    let told = c .before in
+    let ask = told .before .before .before .before .before in
+    let turn = ask .before .before .before .before .before .before .before in
+    let loop = turn .before .before .before .before .before .before .loop in
+    let next = turn .turn .result in
+    let turned = turn .turn .ensures .1 in
+    less-unread (loop .held) (loop .base) (next .held) (next .base) (turned .exact) (loop .inv .3) (loop .inv .4)
+    (told .filled .given .0 .0) (loop .done) (turned .holds) (filled told .0) (asked ask .1)
+
+loop-again-2 : tie.Need-loop-again-2 Inv-loop μ-loop
+loop-again-2 c =
+    let told = c .before in
+    let read = told .before .before .before in
+    let ask = read .before .before in
+    let turn = ask .before .before .before .before .before .before .before in
+    let inv = turn .before .before .before .before .before .before .loop .inv in
+    let turned = turn .turn .ensures .1 in (
+      turn .turn .ensures .0,
+      read .read-more .ensures .1 ∙ turned .keeps .0 ∙ inv .1,
+      turned .keeps .1 ∙ inv .2,
+      omega (arith, filled told .1, turned .keeps .0, inv .1),
+      omega (arith, turned .exact, asked ask .0, inv .3),
+    )
+
+enum-told-3 : tie.Need-enum-told-3 Inv-loop μ-loop
+enum-told-3 c = search needs
+
+slice-aggregate-tell-2 : tie.Need-slice-aggregate-tell-2 Inv-loop μ-loop
+slice-aggregate-tell-2 c = search needs
+
+tell-requires-2 : tie.Need-tell-requires-2 Inv-loop μ-loop
+tell-requires-2 c κs = search needs
+
+returns-2 : tie.Need-returns-2 Inv-loop μ-loop
+returns-2 c = search needs
+
+enum-told-4 : tie.Need-enum-told-4 Inv-loop μ-loop
+enum-told-4 c = search needs
+
+returns-3 : tie.Need-returns-3 Inv-loop μ-loop
+returns-3 c = search needs
+
+enum-told-5 : tie.Need-enum-told-5 Inv-loop μ-loop
+enum-told-5 c = search needs
+
+slice-aggregate-tell-3 : tie.Need-slice-aggregate-tell-3 Inv-loop μ-loop
+slice-aggregate-tell-3 c = search needs
+
+tell-requires-3 : tie.Need-tell-requires-3 Inv-loop μ-loop
+tell-requires-3 c κs = search needs
+
+returns-4 : tie.Need-returns-4 Inv-loop μ-loop
+returns-4 c = search needs
+
+pub main-spec : {M : Type 1} → statement M
+main-spec =
+    tie.close
+    (tie.spec
+    Inv-loop
+    μ-loop
+    large-buffer-requires
+    large-buffer-requires-2
+    open-fresh-requires
+    loop-holds
+    slice-aggregate-turn
+    slice-aggregate-turn-2
+    turn-requires
+    array-share-prefix-page
+    slice-aggregate-write-all
+    write-all-requires
+    slice-aggregate-tell
+    tell-requires
+    returns
+    enum-told
+    loop-less
+    loop-again
+    enum-told-2
+    slice-aggregate-read-more
+    read-more-requires
+    enum-known-filled
+    loop-less-2
+    loop-again-2
+    enum-told-3
+    slice-aggregate-tell-2
+    tell-requires-2
+    returns-2
+    enum-told-4
+    returns-3
+    enum-told-5
+    slice-aggregate-tell-3
+    tell-requires-3
+    returns-4)

@@ -1,0 +1,3 @@
+-- What the contracts of this crate cite, and why the program ends.
+pub mod Fill
+pub mod Ends
