@@ -96,6 +96,11 @@ impl Desk {
         state
     }
 
+    /// How many bytes the state takes.
+    pub fn bytes(&self) -> usize {
+        size_of::<Desk>() - size_of::<Mail>() + self.mail.bytes()
+    }
+
     /// The standing of a rank.
     pub fn standing(&self, rank: Rank) -> Standing {
         self.standings[rank.index()]

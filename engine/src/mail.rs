@@ -82,6 +82,16 @@ impl Mail {
         &mut self.queues[receiver.index() * Rank::COUNT + sender.index()]
     }
 
+    /// How many bytes all of it takes, with the room that queues keep.
+    pub fn bytes(&self) -> usize {
+        let values: usize = self
+            .queues
+            .iter()
+            .map(|queue| queue.values.capacity())
+            .sum();
+        size_of::<Mail>() + self.queues.len() * size_of::<PairQueue>() + values * size_of::<u32>()
+    }
+
     /// How many messages are unread in the whole desk.
     pub fn unread(&self) -> usize {
         self.unread

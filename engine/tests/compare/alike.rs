@@ -3,10 +3,10 @@
 //! folder.
 
 use crate::expected::Expected;
-use crate::log::{Feed, Log};
+use crate::log::Log;
 use crate::program::{Input, Program};
 use crate::tally::Tally;
-use crate::{garbage, limits, paper, probes, random, window};
+use crate::{garbage, limits, paper, probes, random, short_records, window};
 use engine::text::decode;
 use std::fs::{self, File};
 use std::path::{Path, PathBuf};
@@ -25,6 +25,7 @@ const SCRATCH: &str = env!("CARGO_TARGET_TMPDIR");
 /// All logs, the longest first, so that both workers are busy to the end.
 static LOGS: LazyLock<Vec<Log>> = LazyLock::new(|| {
     [
+        short_records::logs(),
         limits::logs(),
         window::logs(),
         probes::logs(),
@@ -39,10 +40,9 @@ static LOGS: LazyLock<Vec<Log>> = LazyLock::new(|| {
 /// nothing else and ends well.
 fn compare(program: &Program, log: &Log, scratch: &Path) -> Result<(), String> {
     let expected = Expected::of(&log.bytes);
-    let input = match log.feed {
-        Feed::Pipe => Input::Pipe(&log.bytes, log.bytes.len()),
-        Feed::Pieces(length) => Input::Pipe(&log.bytes, length),
-        Feed::File => {
+    let input = match log.feed.pieces(&log.bytes) {
+        Some(lengths) => Input::Pipe(&log.bytes, lengths),
+        None => {
             fs::write(scratch, &log.bytes).map_err(|error| error.to_string())?;
             Input::File(File::open(scratch).map_err(|error| error.to_string())?)
         }

@@ -30,7 +30,7 @@ fn every_example_prints_its_stored_run() {
         let stored = fs::read(text.with_extension("run")).unwrap();
         assert_eq!(run_slice(&log), stored, "{name}, by this engine");
         if let Some(program) = &program {
-            let output = program.run(Input::Pipe(&log, log.len()), stored.len() + 1);
+            let output = program.run(Input::Pipe(&log, vec![log.len()]), stored.len() + 1);
             assert_eq!(output.unwrap().stdout, stored, "{name}, by the program");
         }
     }

@@ -12,8 +12,24 @@ pub enum Feed {
     Pipe,
     /// Through a pipe, in pieces of so many bytes with pauses between.
     Pieces(usize),
+    /// Through a pipe, in pieces of 1, 2, 3 and 7 bytes in turn with pauses
+    /// between.
+    Uneven,
     /// From a file.
     File,
+}
+
+impl Feed {
+    /// The lengths of the pieces in which a log comes through a pipe, in turn;
+    /// none where it comes from a file.
+    pub fn pieces(self, log: &[u8]) -> Option<Vec<usize>> {
+        match self {
+            Feed::Pipe => Some(vec![log.len()]),
+            Feed::Pieces(length) => Some(vec![length]),
+            Feed::Uneven => Some(vec![1, 2, 3, 7]),
+            Feed::File => None,
+        }
+    }
 }
 
 /// A log to compare on.

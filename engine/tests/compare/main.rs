@@ -17,8 +17,8 @@ mod program;
 #[path = "../shared/proved_program.rs"]
 mod proved_program;
 mod random;
+mod short_records;
 #[path = "../shared/situations.rs"]
 mod situations;
 mod tally;
-mod unreadable;
 mod window;

@@ -9,7 +9,7 @@ use std::path::PathBuf;
 use std::process::{ChildStderr, ChildStdin, ChildStdout, Command, Output, Stdio};
 use std::sync::{mpsc, Mutex, MutexGuard, PoisonError};
 use std::thread;
-use std::time::Duration;
+use std::time::{Duration, Instant};
 
 /// A single run may take so long.
 const TIME_LIMIT: Duration = Duration::from_secs(60);
@@ -17,13 +17,17 @@ const TIME_LIMIT: Duration = Duration::from_secs(60);
 /// More than a report of an error is not read from standard error.
 const LONGEST_REPORT: u64 = 4_096;
 
-/// Between the pieces of an input that comes slowly.
-const PAUSE: Duration = Duration::from_micros(200);
+/// Between the pieces of an input that comes slowly; the system makes it some
+/// ten times as long.
+const PAUSE: Duration = Duration::from_micros(5);
+
+/// Once an input has come slowly for so long, its pauses end.
+const SLOWLY: Duration = Duration::from_secs(15);
 
 /// A program's standard input.
 pub enum Input<'a> {
-    /// A log through a pipe, in pieces of so many bytes.
-    Pipe(&'a [u8], usize),
+    /// A log through a pipe, in pieces of these lengths in turn.
+    Pipe(&'a [u8], Vec<usize>),
     /// A file.
     File(File),
 }
@@ -49,7 +53,7 @@ impl Program {
     /// Runs the program. It may print at most so many bytes.
     pub fn run(&self, input: Input, longest: usize) -> Result<Output, String> {
         let (stdin, pipe) = match input {
-            Input::Pipe(log, piece) => (Stdio::piped(), Some((log, piece))),
+            Input::Pipe(log, lengths) => (Stdio::piped(), Some((log, lengths))),
             Input::File(file) => (file.into(), None),
         };
         let mut child = Command::new(&self.path)
@@ -62,8 +66,8 @@ impl Program {
         let stdout = child.stdout.take().expect("standard output is a pipe");
         let stderr = child.stderr.take().expect("standard error is a pipe");
         thread::scope(|scope| {
-            if let (Some(stdin), Some((log, piece))) = (stdin, pipe) {
-                scope.spawn(move || write_pieces(stdin, log, piece));
+            if let (Some(stdin), Some((log, lengths))) = (stdin, pipe) {
+                scope.spawn(move || write_pieces(stdin, log, &lengths));
             }
             let (sender, receiver) = mpsc::channel();
             scope.spawn(move || sender.send(read_both(stdout, stderr, longest)));
@@ -90,13 +94,17 @@ impl Program {
 
 /// A program that stops at a refused record leaves the rest unread, and then
 /// it cannot be written.
-fn write_pieces(mut stdin: ChildStdin, log: &[u8], piece: usize) {
-    for (index, bytes) in log.chunks(piece.max(1)).enumerate() {
-        if index > 0 {
-            thread::sleep(PAUSE);
-        }
-        if stdin.write_all(bytes).is_err() {
+fn write_pieces(mut stdin: ChildStdin, log: &[u8], lengths: &[usize]) {
+    let begun = Instant::now();
+    let mut rest = log;
+    for &length in lengths.iter().cycle() {
+        let (piece, later) = rest.split_at(length.min(rest.len()));
+        if stdin.write_all(piece).is_err() || later.is_empty() {
             return;
+        }
+        rest = later;
+        if begun.elapsed() < SLOWLY {
+            thread::sleep(PAUSE);
         }
     }
 }

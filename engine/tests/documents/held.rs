@@ -1,12 +1,10 @@
 //! All documents, block by block.
 
 use crate::console::{self, Shown};
-use crate::document::{names, Document, ROOT};
+use crate::document::{names, Document};
+use crate::logtext_program::build_logtext;
 use crate::proved_program::{program_at, USUAL_PLACE};
 use crate::{quotes, running_text};
-use std::env;
-use std::path::Path;
-use std::process::Command;
 
 fn documents() -> Vec<Document> {
     let read = |name: &String| Document::read(name).unwrap_or_else(|problem| panic!("{problem}"));
@@ -25,16 +23,6 @@ fn commands(document: &Document) -> Vec<Shown> {
                 .unwrap_or_else(|problem| panic!("{}", document.at(block.line, problem)))
         })
         .collect()
-}
-
-/// Documents name this program where `./run --text` leaves it.
-fn build_logtext() {
-    let built = Command::new(env::var_os("CARGO").unwrap_or("cargo".into()))
-        .args(["build", "--release", "--offline", "--quiet"])
-        .args(["--bin", "logtext"])
-        .current_dir(Path::new(ROOT).join("engine"))
-        .status();
-    assert!(built.unwrap().success(), "logtext cannot be built");
 }
 
 #[test]

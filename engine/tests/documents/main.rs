@@ -13,9 +13,13 @@
 mod console;
 mod document;
 mod held;
+#[path = "../shared/logtext_program.rs"]
+mod logtext_program;
 mod performance;
 #[path = "../shared/proved_program.rs"]
 mod proved_program;
 mod quotes;
 mod running_text;
 mod tables;
+#[path = "../shared/timing_program.rs"]
+mod timing_program;

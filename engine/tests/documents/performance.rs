@@ -3,6 +3,7 @@
 
 use crate::proved_program::{program_at, USUAL_PLACE};
 use crate::tables::{tables, tables_of, Table};
+use crate::timing_program::TIMING;
 use std::process::Command;
 
 /// A table without its figures.
@@ -13,19 +14,21 @@ fn outline(table: &Table) -> (String, Vec<String>) {
 
 #[test]
 fn document_has_the_tables_of_the_benchmark() {
-    let Some(replay) = program_at(USUAL_PLACE) else {
+    let (Some(replay), Some(timing)) = (program_at(USUAL_PLACE), program_at(TIMING)) else {
         return;
     };
     let output = Command::new(env!("CARGO_BIN_EXE_bench"))
         .args(["--records", "5000"])
         .args(["--engine", env!("CARGO_BIN_EXE_engine-replay"), "--replay"])
         .arg(replay)
+        .arg("--timing")
+        .arg(timing)
         .output()
         .unwrap();
     assert!(output.status.success());
     let printed = String::from_utf8(output.stdout).unwrap();
     let printed: Vec<_> = tables(printed.lines()).iter().map(outline).collect();
-    assert_eq!(printed.len(), 2);
+    assert_eq!(printed.len(), 3);
     let documented: Vec<_> = tables_of("docs/PERFORMANCE.md")
         .iter()
         .map(outline)

@@ -1,5 +1,4 @@
-//! The three inputs, each with a name for the table, and what their records
-//! come to.
+//! The inputs, each with a name for the table, and what their records come to.
 
 use crate::pass::Pass;
 use crate::refused::refused_log;
@@ -12,8 +11,12 @@ pub struct Input {
 }
 
 /// The inputs with at least so many records each.
-pub fn inputs(records: usize) -> [Input; 3] {
+pub fn inputs(records: usize) -> [Input; 4] {
     [
+        Input {
+            name: "a pass with moves, few unread",
+            log: pass_log(records, 5, 17),
+        },
         Input {
             name: "a pass with moves, hundreds unread",
             log: pass_log(records, 200, 600),
@@ -40,6 +43,9 @@ fn pass_log(records: usize, least: usize, most: usize) -> Vec<u8> {
 pub struct Counts {
     pub records: u64,
     pub accepted: u64,
+    /// The bytes of the state that it leaves; queues keep their room, so it
+    /// never took more.
+    pub state_bytes: usize,
     unread: u64,
 }
 
@@ -56,6 +62,7 @@ impl Counts {
             counts.unread += desk.mail().unread() as u64;
             position = outcome.next;
         }
+        counts.state_bytes = desk.bytes();
         counts
     }
 

@@ -1,18 +1,19 @@
 //! Both programs on the same log, in turns: whether their outputs are equal,
-//! and what each costs.
+//! and what each costs; and any program on an input.
 
 use crate::cost::Cost;
 use std::fs;
-use std::path::PathBuf;
+use std::path::{Path, PathBuf};
 use std::{env, io, process};
 
-/// Each program is run so often on a log.
-const ROUNDS: usize = 3;
+/// Each program is run so often on an input.
+pub const ROUNDS: usize = 3;
 
-/// The two programs to measure.
+/// The two programs to measure, and the one that makes the library's calls.
 pub struct Programs {
     pub proved: PathBuf,
     pub rust: PathBuf,
+    pub timing: PathBuf,
 }
 
 /// What the two programs cost.
@@ -38,7 +39,7 @@ impl Costs {
     }
 }
 
-/// A folder for a log and two outputs, removed at the end.
+/// A folder for inputs and outputs, removed at the end.
 pub struct Folder(PathBuf);
 
 impl Folder {
@@ -67,6 +68,14 @@ impl Folder {
             }
         }
         Ok(costs)
+    }
+
+    /// Runs a program on an input, and gives what it prints.
+    pub fn run(&self, program: &Path, input: &[u8]) -> Result<(Cost, Vec<u8>), String> {
+        let [place, output] = ["input", "output"].map(|name| self.0.join(name));
+        fs::write(&place, input).map_err(unusable)?;
+        let cost = Cost::of_run(program, &place, &output)?;
+        Ok((cost, fs::read(&output).map_err(unusable)?))
     }
 }
 

@@ -6,16 +6,18 @@ use std::ffi::OsString;
 use std::path::PathBuf;
 use std::process::Command;
 
-const USAGE: &str = "usage: bench [--records COUNT] [--replay PROGRAM] [--engine PROGRAM]";
+const USAGE: &str = "usage: bench [--records COUNT] [--replay PROGRAM] [--engine PROGRAM] \
+    [--timing PROGRAM]";
 
 const FOLDER: &str = env!("CARGO_MANIFEST_DIR");
 
-/// Where nothing else is asked for, 2,000,000 records, the proved program at
-/// its usual place, and `engine-replay` built anew in release.
+/// Where nothing else is asked for, 2,000,000 records, the proved programs at
+/// their usual place, and `engine-replay` built anew in release.
 pub struct Options {
     pub records: usize,
     replay: Option<PathBuf>,
     engine: Option<PathBuf>,
+    timing: Option<PathBuf>,
 }
 
 impl Options {
@@ -24,6 +26,7 @@ impl Options {
             records: 2_000_000,
             replay: None,
             engine: None,
+            timing: None,
         };
         let mut arguments = env::args_os().skip(1);
         while let Some(option) = arguments.next() {
@@ -32,6 +35,7 @@ impl Options {
                 Some("--records") => options.records = read_count(value)?,
                 Some("--replay") => options.replay = Some(value.into()),
                 Some("--engine") => options.engine = Some(value.into()),
+                Some("--timing") => options.timing = Some(value.into()),
                 _ => return Err(USAGE.to_owned()),
             }
         }
@@ -39,15 +43,28 @@ impl Options {
     }
 
     pub fn programs(&self) -> Result<Programs, String> {
-        let usual = || PathBuf::from(FOLDER).join("../target/bin/replay");
-        let proved = self.replay.clone().unwrap_or_else(usual);
-        if !proved.is_file() {
-            let place = proved.display();
-            return Err(format!("there is no program at {place}; ./run builds it"));
-        }
+        let proved = proved_program(&self.replay, "replay")?;
+        let timing = proved_program(&self.timing, "timing")?;
         let rust = self.engine.clone().map_or_else(build_engine, Ok)?;
-        Ok(Programs { proved, rust })
+        Ok(Programs {
+            proved,
+            rust,
+            timing,
+        })
     }
+}
+
+/// The program that is asked for, else the one of this name at its usual place.
+fn proved_program(asked: &Option<PathBuf>, name: &str) -> Result<PathBuf, String> {
+    let usual = || PathBuf::from(FOLDER).join("../target/bin").join(name);
+    let program = asked.clone().unwrap_or_else(usual);
+    if !program.is_file() {
+        let place = program.display();
+        return Err(format!(
+            "there is no program at {place}; 'rt check {name}' builds it"
+        ));
+    }
+    Ok(program)
 }
 
 fn read_count(value: OsString) -> Result<usize, String> {

@@ -99,11 +99,17 @@ impl Pass {
         } else if unread >= *self.unread.end() {
             self.filling = false;
         }
-        match unread {
-            0 => true,
-            full if full >= *self.unread.end() => false,
-            _ => (self.bits.below(8) < 5) == self.filling,
+        if !self.can_take() {
+            return true;
         }
+        unread < *self.unread.end() && (self.bits.below(8) < 5) == self.filling
+    }
+
+    /// Whether a message is unread that its receiver can take: one that moves
+    /// can't.
+    fn can_take(&self) -> bool {
+        let receives = |b: Rank| !self.desk.mail().senders_to(b).is_empty();
+        Rank::all().any(|b| receives(b) && self.desk.standing(b).is_running())
     }
 
     /// A whole move, with exchanges between its steps.

@@ -1,5 +1,6 @@
 //! The tables in markdown.
 
+use crate::cost::Cost;
 use crate::input::Counts;
 use crate::measure::Costs;
 use std::time::Duration;
@@ -22,16 +23,39 @@ pub fn row(name: &str, counts: &Counts, costs: &Costs) -> String {
     ];
     let cells = numbers.map(grouped).join(" | ");
     let ratio = proved.as_secs_f64() / rust.as_secs_f64();
-    format!("| {name} | {cells} | {ratio:.1} |\n")
+    format!("| {name} | {cells} | {ratio:.2} |\n")
 }
 
-/// The second table: what memory each program comes to.
-pub fn memory(most: &Costs) -> String {
-    let [proved, rust] = [most.proved, most.rust].map(|cost| grouped(cost.memory_kib));
+/// The header of the second table: the time of a call with so many unread.
+pub fn calls_header<const COLUMNS: usize>(unread: [usize; COLUMNS]) -> String {
+    let columns = unread.map(|unread| format!(" {} unread, µs |", grouped(unread as u64)));
+    format!(
+        "\n| Call |{}\n|---|{}\n",
+        columns.concat(),
+        "---:|".repeat(COLUMNS)
+    )
+}
+
+/// The times of a call.
+pub fn calls_row<const COLUMNS: usize>(name: &str, times: [f64; COLUMNS]) -> String {
+    let cells = times.map(|time| format!(" {time:.3} |"));
+    format!("| {name} |{}\n", cells.concat())
+}
+
+/// The bytes in which the proved program keeps the state of a run, by its
+/// types.
+const PROVED_STATE: u64 = 2 * 6_914 + 4 * 2_048 + 8 * 552;
+
+/// The third table: the most memory that each program comes to, and what the
+/// state takes of it.
+pub fn memory(most: &Costs, rust_state: usize) -> String {
+    let row = |cost: Cost, state| format!("{} | {}", grouped(cost.memory_kib), grouped(state));
+    let proved = row(most.proved, PROVED_STATE);
+    let rust = row(most.rust, rust_state as u64);
     format!(
         "
-| Program | Peak memory, KiB |
-|---|---:|
+| Program | Peak memory, KiB | State of a run, bytes |
+|---|---:|---:|
 | `replay`, proved | {proved} |
 | `engine-replay`, Rust | {rust} |
 "

@@ -1,0 +1,110 @@
+//! The library's calls: what one costs on a state with so many messages
+//! unread, by a program that makes it many times.
+
+use crate::cost::Cost;
+use crate::measure::{Folder, ROUNDS};
+use crate::pass::Pass;
+use engine::{Rank, Step};
+use std::path::Path;
+use std::time::Duration;
+
+/// A call, by its name for the table and by the byte that asks for it, and how
+/// many times more often it is made than the slow ones.
+#[derive(Clone, Copy)]
+pub struct Call {
+    pub name: &'static str,
+    byte: u8,
+    oftener: u32,
+}
+
+pub const CALLS: [Call; 4] = [
+    Call {
+        name: "`step`, by value",
+        byte: 1,
+        oftener: 1,
+    },
+    Call {
+        name: "`step_lent`",
+        byte: 2,
+        oftener: 1,
+    },
+    Call {
+        name: "`step_in_place`",
+        byte: 4,
+        oftener: 100,
+    },
+    IS_SOUND,
+];
+
+const IS_SOUND: Call = Call {
+    name: "`is_sound`",
+    byte: 3,
+    oftener: 1,
+};
+
+/// How many messages are unread, a column for each.
+pub const UNREAD: [usize; 3] = [0, 400, 1_000];
+
+/// The rank of the step that is measured, a look, which leaves the state as it
+/// is.
+const LOOKING: Rank = Rank(0);
+
+/// The microseconds of a call with so many messages unread: the time of so
+/// many calls more, by their number.
+pub fn microseconds(
+    folder: &Folder,
+    program: &Path,
+    call: Call,
+    unread: usize,
+    more: u32,
+) -> Result<f64, String> {
+    let more = more * call.oftener;
+    let pass = with_unread(unread);
+    let answers = answers(call, &pass);
+    let few = 1 + more / 10;
+    let mut best = [Cost::OF_NONE; 2];
+    for _ in 0..ROUNDS {
+        for (best, times) in best.iter_mut().zip([few, few + more]) {
+            let input = [&[call.byte][..], &times.to_le_bytes(), &pass.log].concat();
+            let (cost, printed) = folder.run(program, &input)?;
+            let mut allowed = answers.iter();
+            if !allowed.any(|&answer| printed == sum(answer, times)) {
+                return Err(format!("{}: not what was asked for", program.display()));
+            }
+            *best = best.and(cost);
+        }
+    }
+    let [short, long] = best.map(|cost| cost.time);
+    Ok(micros(long.saturating_sub(short)) / f64::from(more))
+}
+
+/// All ranks joined, and so many messages between them unread.
+fn with_unread(unread: usize) -> Pass {
+    let mut pass = Pass::joined(Rank::COUNT as u8, unread..=unread, unread as u64);
+    while pass.desk.mail().unread() < unread {
+        pass.exchange();
+    }
+    pass
+}
+
+/// What a call may answer: 1 for a sound state, and for a look its number and
+/// its rank together.
+fn answers(call: Call, pass: &Pass) -> Vec<u64> {
+    if call.byte == IS_SOUND.byte {
+        return vec![1];
+    }
+    let ranks = pass.desk.mail().senders_to(LOOKING).into_iter();
+    match pass.desk.check(Step::Look { r: LOOKING }) {
+        Ok(()) => ranks.map(|rank| u64::from(rank.0)).collect(),
+        Err(refusal) => vec![u64::from(refusal.number())],
+    }
+}
+
+/// What the program prints for a call that gives this answer so many times.
+fn sum(answer: u64, times: u32) -> Vec<u8> {
+    format!("{}\n", answer * u64::from(times)).into_bytes()
+}
+
+fn micros(time: Duration) -> f64 {
+    time.as_secs_f64() * 1e6
+}

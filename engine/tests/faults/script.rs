@@ -1,0 +1,128 @@
+//! `./run`: it ends with 1 where the program says that something failed, with
+//! the program's words on standard error, and with 0 where only its reader
+//! went away.
+
+use crate::logtext_program::build_logtext;
+use crate::printed_run::LISTING;
+use crate::program::{assert_lines_come_at_once, UNREADABLE, UNWRITABLE};
+use crate::proved_program::{program_at, USUAL_PLACE};
+use crate::records::{file_with, full_disk, long_log};
+use crate::running::{End, Running};
+use engine::run_slice;
+use std::process::{Command, Stdio};
+
+const ROOT: &str = concat!(env!("CARGO_MANIFEST_DIR"), "/..");
+
+/// A line of shell in the repository's root, where the script is. What the
+/// script would build, in its own time, is there before.
+fn shell(line: &str) -> Option<Command> {
+    program_at(USUAL_PLACE)?;
+    if line.contains("--text") {
+        build_logtext();
+    }
+    let mut command = Command::new("bash");
+    command.args(["-c", line]).current_dir(ROOT);
+    command.env("LC_ALL", "C").stdin(Stdio::null());
+    Some(command)
+}
+
+/// How a line of shell ends, with its output piped.
+fn end_of(line: &str) -> Option<End> {
+    let mut command = shell(line)?;
+    Some(Running::start(command.stdout(Stdio::piped())).end())
+}
+
+fn assert_end(end: &End, code: i32, printed: &str, said: &str) {
+    let found = (end.status.code(), &end.printed[..], &end.said[..]);
+    assert_eq!(found, (Some(code), printed, said));
+}
+
+#[test]
+fn a_run_that_is_whole_ends_with_0() {
+    for line in ["exec ./run", "./run - <crates/replay/stdin"] {
+        let Some(end) = end_of(line) else { return };
+        assert_end(&end, 0, LISTING, "");
+    }
+}
+
+#[test]
+fn a_full_disk_ends_with_1() {
+    for line in ["exec ./run", "exec ./run --text examples/listing.txt"] {
+        let Some(mut command) = shell(line) else {
+            return;
+        };
+        let end = Running::start(command.stdout(full_disk())).end();
+        assert_end(&end, 1, "", UNWRITABLE);
+    }
+}
+
+#[test]
+fn a_closed_output_ends_with_1() {
+    let Some(end) = end_of("exec ./run >&-") else {
+        return;
+    };
+    assert_end(&end, 1, "", UNWRITABLE);
+}
+
+#[test]
+fn an_input_that_cannot_be_read_ends_with_1() {
+    for line in ["exec ./run docs", "exec ./run - <docs", "exec ./run - <&-"] {
+        let Some(end) = end_of(line) else { return };
+        assert_end(&end, 1, "", UNREADABLE);
+    }
+}
+
+/// The status tells it also where nothing can be said.
+#[test]
+fn a_closed_standard_error_does_not_hide_it() {
+    let Some(end) = end_of("exec ./run docs 2>&-") else {
+        return;
+    };
+    assert_end(&end, 1, "", "");
+}
+
+#[test]
+fn a_file_that_is_not_there_ends_with_1() {
+    for line in ["exec ./run none.log", "exec ./run --text none.log"] {
+        let Some(end) = end_of(line) else { return };
+        assert_eq!((end.status.code(), &end.printed[..]), (Some(1), ""));
+        let told = "none.log: No such file or directory\n";
+        assert!(end.said.ends_with(told), "{}", end.said);
+    }
+}
+
+#[test]
+fn a_text_with_an_error_ends_with_the_readers_status() {
+    let text = file_with("wrong.txt", b"start 0 0\nsned 0 1 500\n");
+    let line = format!("exec ./run --text '{}'", text.display());
+    let Some(end) = end_of(&line) else { return };
+    assert_eq!((end.status.code(), &end.printed[..]), (Some(1), ""));
+    let told = "line 2: 'sned' is no record kind";
+    assert!(end.said.starts_with(told), "{}", end.said);
+}
+
+#[test]
+fn a_reader_that_goes_away_is_no_error() {
+    let log = long_log();
+    let run = String::from_utf8(run_slice(&log)).unwrap();
+    let first = run.split_inclusive('\n').next().unwrap();
+    let log = file_with("script-reader.log", &log);
+    for (command, reader, read) in [
+        ("./run".to_owned(), "head -n 1", "0 01 0 0 1 0\n"),
+        (format!("./run '{}'", log.display()), "head -n 1", first),
+        (format!("./run '{}'", log.display()), "true", ""),
+    ] {
+        let line = format!("{command} | {reader}; exit ${{PIPESTATUS[0]}}");
+        let Some(end) = end_of(&line) else { return };
+        assert_end(&end, 0, read, "");
+    }
+}
+
+#[test]
+fn lines_come_while_the_input_is_open() {
+    let Some(mut command) = shell("exec ./run -") else {
+        return;
+    };
+    let end = assert_lines_come_at_once(Running::start_piped(&mut command));
+    assert_end(&end, 0, LISTING, "");
+}
