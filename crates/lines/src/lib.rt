@@ -2,9 +2,11 @@
 ghost use mathlib.Core.List.{_∷_, []};
 ghost use Prim.Native.Nat.{_+_, _≤_};
 ghost use lib.ListN.{length};
+ghost use Rattle.broker.specs.declared.answer.Answer.the-variants.{Refused};
 ghost use Rattle.lines.specs.Lines.{recordLine, recordRoom, pairLine, pairRoom, endLine, endRoom};
 ghost use Rattle.page.specs.Put.{Put};
 use broker::answer::Answer;
+use broker::answer::Refusal;
 use page::put_byte;
 use page::put_decimal;
 use page::put_four_bytes;
@@ -30,6 +32,18 @@ pub fn record_line(page: &mut [u8], used: usize, position: u64, kind: u8, answer
         values.2 as u64,
     );
     put_byte(page, at, b'\n')
+}
+
+// The same where a run ends: a refusal has no values. A run calls `record_line` at one place, so that it is compiled into its loop.
+pub fn refused_line(page: &mut [u8], used: usize, position: u64, kind: u8, why: Refusal) -> usize
+    requires { ⌜ used + recordRoom ≤ length (now page) ⌝ }
+    ensures { λ r. ⌜ Put recordRoom (now (page .entry)) used (recordLine position kind (Refused why)) (now (page .exit)) r ⌝ }
+{
+    let number = why.number();
+    let position_end = put_decimal(page, used, position);
+    let kind_end = put_hex(page, position_end, kind);
+    let numbers_end = put_four_numbers(page, kind_end, number as u64, 0, 0, 0);
+    put_byte(page, numbers_end, b'\n')
 }
 
 // `pair`, the sender a, the receiver b, and the counts at places 0 to 3.

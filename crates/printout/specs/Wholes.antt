@@ -5,6 +5,7 @@ use mathlib.Core.List.{List, [], _∷_, _++_}
 use Prim.Native.Nat.{ℕ, zero, suc, _+_}
 use lib.Dec.{ltb}
 use lib.ListN.{length, getD}
+use Rattle.broker.specs.Kind.{isKind}
 use Rattle.broker.specs.Record.{decode}
 use Rattle.broker.specs.State.{State}
 use Rattle.broker.specs.Step.{Settlement, settle}
@@ -33,6 +34,10 @@ abbrev pub reason : Decoded → Refusal
 reason (Whole r next) = CutShort
 reason Unknown = UnknownKind
 reason Cut = CutShort
+
+-- the same by the kind that stands there
+abbrev pub reasonOf : ℕ → Refusal
+reasonOf kind = cond (isKind kind) CutShort UnknownKind
 
 -- "It stops at the log's end without a line for it, or after a 2 or 3": the step that ends a run, where there is one
 unfoldable pub closing : ℕ → List ℕ → ℕ → List Answered

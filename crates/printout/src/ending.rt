@@ -7,24 +7,23 @@ ghost use Rattle.page.specs.Put.{Put};
 ghost use Rattle.lines.specs.Lines.{recordRoom, pairLines, endLine};
 ghost use Rattle.printout.specs.Last.{PutOf, endingRoom};
 ghost use Rattle.printout.specs.Printed.{linesOf};
-ghost use Rattle.printout.specs.Wholes.{reason, closing};
+ghost use Rattle.printout.specs.Wholes.{reasonOf, closing};
 use crate::last::last_lines;
-use broker::answer::Answer;
 use broker::answer::Refusal;
-use broker::record::Decoded;
-use lines::record_line;
-use steps::decode::decode;
+use lines::refused_line;
 use transit::Slots;
 
-// Why a run ends where no whole record stands.
-fn reason(decoded: Decoded) -> Refusal
-    ensures { λ r. ⌜ r ≡ reason decoded ⌝ }
+// Why a run ends where a kind stands, and no whole record of it.
+fn reason_of(kind: u8) -> Refusal
+    ensures { λ r. ⌜ r ≡ reasonOf kind ⌝ }
 {
-    match decoded {
-        Decoded::Whole(_, _) => Refusal::CutShort,
-        Decoded::Unknown => Refusal::UnknownKind,
-        Decoded::Cut => Refusal::CutShort,
+    if kind < 1 {
+        return Refusal::UnknownKind;
     }
+    if 12 < kind {
+        return Refusal::UnknownKind;
+    }
+    Refusal::CutShort
 }
 
 // The line after which a run ends, where there is one, of what is left of the input: its first byte stands at `base`.
@@ -36,9 +35,8 @@ pub fn closing_line(page: &mut [u8], used: usize, base: u64, rest: &[u8]) -> usi
         return used;
     }
     let kind = rest[0];
-    let decoded = decode(rest, 0);
-    let why = reason(decoded);
-    record_line(page, used, base, kind, Answer::Refused(why))
+    let why = reason_of(kind);
+    refused_line(page, used, base, kind, why)
 }
 
 // How a run ends where no whole record is left: that line, the pairs with messages unread, and `end`.

@@ -1,5 +1,6 @@
 -- `lines::record_line` meets its contract: four puts in a row, whose texts are the parts of the line. Assumes nothing.
 use borrow.Author.Needs.{needs}
+use Rattle.broker.specs.Answer.{listed}
 use Rattle.page.specs.Laws.Put.{_then_, as-text}
 use Rattle.lines.specs.Laws.Parts.{record-parts}
 use Rattle.lines.proofs.record_line.Statement.{statement}
@@ -49,7 +50,8 @@ returns c =
     let number = known .before .number in
     let values = known .values in
     as-text
-    (record-parts (args .position) (args .kind) (args .answer) (number .result) (values .result) (number .ensures) (values .ensures))
+    (record-parts (args .position) (args .kind) (args .answer) (number .result) (listed (values .result)) (number .ensures)
+    (values .ensures))
     (position .put-decimal .ensures then kind .put-hex .ensures then four .put-four-numbers .ensures then last .put-byte .ensures)
 
 pub record-line-spec : {M : Type 1} → statement M

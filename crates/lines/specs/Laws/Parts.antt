@@ -8,23 +8,22 @@ use Rattle.transit.specs.Message.{between}
 use Rattle.transit.specs.declared.Message.{Message}
 use Rattle.page.specs.Laws.Text.{numbers-append}
 use Rattle.page.specs.Text.{decimal, hex, newline, numbers, space}
-use Rattle.broker.specs.Answer.{number, values, listed}
+use Rattle.broker.specs.Answer.{number, values}
 use Rattle.broker.specs.Ranks.{rank}
 use Rattle.broker.specs.declared.answer.Answer.{Answer}
-use Rattle.broker.specs.declared.answer.Values.{Values}
 use Rattle.lines.specs.Lines.{recordLine, pairWord, pairLine, countsAtPlaces, linesOfPair}
 
 -- A record's line is its position, its kind, the numbers of its answer and the line's end.
 pub record-parts :
-    (position kind : ℕ) (a : Answer) (n : ℕ) (v : Values) →
+    (position kind : ℕ) (a : Answer) (n : ℕ) (ns : List ℕ) →
     n ≡ number a →
-    listed v ≡ values a →
-    decimal position ++ (space ∷ hex kind) ++ numbers (n ∷ listed v) ++ (newline ∷ []) ≡ recordLine position kind a
+    ns ≡ values a →
+    decimal position ++ (space ∷ hex kind) ++ numbers (n ∷ ns) ++ (newline ∷ []) ≡ recordLine position kind a
 unfolding recordLine
-record-parts position kind a n v e f =
+record-parts position kind a n ns e f =
     ap
     (λ (l : List ℕ). decimal position ++ (space ∷ hex kind) ++ numbers l ++ (newline ∷ []))
-    (ap (λ (m : ℕ). m ∷ listed v) e ∙ ap (λ (l : List ℕ). number a ∷ l) f)
+    (ap (λ (m : ℕ). m ∷ ns) e ∙ ap (λ (l : List ℕ). number a ∷ l) f)
 
 -- A pair's line is the word, the two ranks, the counts and the line's end.
 pub pair-parts :

@@ -4,9 +4,10 @@ use mathlib.Core.List.{List, [], _∷_, _++_, append-assoc}
 use Prim.Native.Nat.{ℕ, _+_, _≤_, _<_}
 use native.Mathlib.Omega.{arith}
 use borrow.Author.Tests.{lt-ltb, le-ltb, ltb-true, ltb-false}
-use lib.Dec.{ltb}
-use lib.ListN.{length, length-append}
+use lib.Dec.{leb, ltb}
+use lib.ListN.{getD, length, length-append}
 use Rattle.transit.specs.Laws.Tests.{by-test}
+use Rattle.broker.specs.Kind.{isKind, bodyLength}
 use Rattle.broker.specs.Record.{decode}
 use Rattle.broker.specs.declared.answer.Answer.the-variants.{Refused}
 use Rattle.broker.specs.declared.record.Decoded.{Decoded}
@@ -14,7 +15,7 @@ use Rattle.broker.specs.declared.record.Decoded.the-variants.{Whole, Unknown, C
 use Rattle.printout.specs.Laws.Wholes.{movedBy, answered-behind}
 use Rattle.printout.specs.Laws.Window.{moved, decode-behind}
 use Rattle.printout.specs.Run.{Answered, Came, behind}
-use Rattle.printout.specs.Wholes.{answeredAt, reason, closing, ended}
+use Rattle.printout.specs.Wholes.{answeredAt, reason, reasonOf, closing, ended}
 
 module _ (base : ℕ) (log : List ℕ) (at : ℕ) where
   -- "It stops at the log's end without a line for it".
@@ -27,6 +28,18 @@ module _ (base : ℕ) (log : List ℕ) (at : ℕ) where
       (d : Decoded) → at < length log → decode log at ≡ d → closing base log at ≡ answeredAt base log at (Refused (reason d)) ∷ []
   unfolding closing
   closing-there d h e = rw (lt-ltb at (length log) h, e)
+
+  reason-of-kind : at < length log → reason (decode log at) ≡ reasonOf (getD log at 0)
+  unfolding decode
+  reason-of-kind h =
+      rw (lt-ltb at (length log) h)
+      (by-test (isKind (getD log at 0))
+      (λ t. rw t (by-test (leb (at + 1 + bodyLength (getD log at 0)) (length log)) (λ u. rw u refl) (λ u. rw u refl)))
+      (λ t. rw t refl))
+
+  -- Its kind tells why.
+  pub closing-by-kind : at < length log → closing base log at ≡ answeredAt base log at (Refused (reasonOf (getD log at 0))) ∷ []
+  closing-by-kind h = closing-there (decode log at) h refl ∙ rw (reason-of-kind h)
 
 -- What is before a log is no part of how its run ends.
 module _ (base : ℕ) (gone log : List ℕ) where

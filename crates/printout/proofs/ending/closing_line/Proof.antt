@@ -6,9 +6,8 @@ use native.Mathlib.Nat.{add-zero}
 use native.Mathlib.Omega.{arith}
 use borrow.Author.Needs.{needs}
 use Rattle.page.specs.Laws.Put.{nothing, at-most, as-text}
-use Rattle.printout.specs.Laws.Ending.{closing-at-end, closing-there}
+use Rattle.printout.specs.Laws.Ending.{closing-at-end, closing-by-kind}
 use Rattle.printout.specs.Printed.{linesOf}
-use Rattle.printout.specs.Wholes.{reason}
 use Rattle.printout.proofs.ending.closing_line.Statement.{statement}
 use Rattle.printout.proofs.ending.closing_line.Tie as tie
 
@@ -22,14 +21,11 @@ returns c =
 shared-slice-read-kind : tie.Need-shared-slice-read-kind
 shared-slice-read-kind c = search needs
 
-decode-requires : tie.Need-decode-requires
-decode-requires c κs = search needs
+reason-of-requires : tie.Need-reason-of-requires
+reason-of-requires c κs = search needs
 
-reason-requires : tie.Need-reason-requires
-reason-requires c κs = search needs
-
-record-line-requires : tie.Need-record-line-requires
-record-line-requires c κs = search needs
+refused-line-requires : tie.Need-refused-line-requires
+refused-line-requires c κs = search needs
 
 same-length : tie.Need-same-length
 same-length c = search needs
@@ -38,10 +34,9 @@ returns-2 : tie.Need-returns-2
 returns-2 c =
     let line = c .before .before in
     let why = line .before .before in
-    let read = why .before in
-    let args = read .before .before .before .before .before .args in
-    let there = closing-there (args .base) (args .rest .now) 0 (read .decode .result) (omega arith) (sym (read .decode .ensures)) in
-    rw (there, append-nil, add-zero (args .base), ← why .reason .ensures) (line .record-line .ensures)
+    let args = why .before .before .before .before .before .args in
+    rw (closing-by-kind (args .base) (args .rest .now) 0 (omega arith), append-nil, add-zero (args .base), ← why .reason-of .ensures)
+    (line .refused-line .ensures)
 
 pub closing-line-spec : {M : Type 1} → statement M
 closing-line-spec =
@@ -49,8 +44,7 @@ closing-line-spec =
     (tie.spec
     returns
     shared-slice-read-kind
-    decode-requires
-    reason-requires
-    record-line-requires
+    reason-of-requires
+    refused-line-requires
     same-length
     returns-2)

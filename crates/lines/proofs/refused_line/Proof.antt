@@ -1,0 +1,56 @@
+-- `lines::refused_line` meets its contract: the puts of a record's line, of a refusal. Assumes nothing.
+use mathlib.Core.Path.{refl}
+use borrow.Author.Needs.{needs}
+use Rattle.broker.specs.Answer.{values}
+use Rattle.broker.specs.declared.answer.Answer.the-variants.{Refused}
+use Rattle.page.specs.Laws.Put.{_then_, as-text}
+use Rattle.lines.specs.Laws.Parts.{record-parts}
+use Rattle.lines.proofs.refused_line.Statement.{statement}
+use Rattle.lines.proofs.refused_line.Tie as tie
+
+number-requires : tie.Need-number-requires
+number-requires c κs = search needs
+
+put-decimal-requires : tie.Need-put-decimal-requires
+put-decimal-requires c κs = search needs
+
+put-hex-requires : tie.Need-put-hex-requires
+put-hex-requires c κs = search needs
+
+cast-put-four-numbers : tie.Need-cast-put-four-numbers
+cast-put-four-numbers c = search needs
+
+put-four-numbers-requires : tie.Need-put-four-numbers-requires
+put-four-numbers-requires c κs = search needs
+
+put-byte-requires : tie.Need-put-byte-requires
+put-byte-requires c κs = search needs
+
+same-length : tie.Need-same-length
+same-length c = search needs
+
+returns : tie.Need-returns
+returns c =
+    let last = c .before .before in
+    let four = last .before .before .before .before in
+    let kind = four .before .before .before .before in
+    let position = kind .before .before .before .before in
+    let known = position .before .before in
+    let args = known .before .before .args in
+    let number = known .number in
+    as-text
+    (record-parts (args .position) (args .kind) (Refused (args .why)) (number .result) (values (Refused (args .why))) (number .ensures) refl)
+    (position .put-decimal .ensures then kind .put-hex .ensures then four .put-four-numbers .ensures then last .put-byte .ensures)
+
+pub refused-line-spec : {M : Type 1} → statement M
+refused-line-spec =
+    tie.close
+    (tie.spec
+    number-requires
+    put-decimal-requires
+    put-hex-requires
+    cast-put-four-numbers
+    put-four-numbers-requires
+    put-byte-requires
+    same-length
+    returns)
