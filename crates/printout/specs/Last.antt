@@ -15,12 +15,14 @@ pub record PutOf (most : ℕ) (page : List ℕ) (used : ℕ) (slots : List ℕ) 
   pub put : Put most page used text after end
   pub same : (contents : List ℕ) → Mail slots contents → text ≡ said (messagesIn slots contents)
 
--- the most bytes that the lines of a sender take, the last lines of a run, and the last lines behind the line that ends it
+-- the most bytes that the lines of a sender take
 abbrev pub senderRoom : ℕ
 senderRoom = pairRoom * ranks
 
+-- the most bytes that the last lines of a run take
 abbrev pub lastRoom : ℕ
 lastRoom = senderRoom * ranks + endRoom
 
+-- the most bytes that they take behind the line that ends the run
 abbrev pub endingRoom : ℕ
 endingRoom = recordRoom + lastRoom

@@ -1,5 +1,5 @@
 -- The laws of a printed run: what stands in a part of a log, the whole records of a log, how a run ends, the run by steps, its text, runs
--- in pieces, the buffer between them, and the ordering claim.
+-- in pieces, the run of a piece, the last lines, the buffer between pieces, turns and all that they write, and the ordering claim.
 pub mod Window
 pub mod Wholes
 pub mod Ending
@@ -10,4 +10,5 @@ pub mod Ran
 pub mod Last
 pub mod Buffer
 pub mod Turn
+pub mod Course
 pub mod Ordering

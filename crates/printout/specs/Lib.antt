@@ -1,4 +1,4 @@
--- The printed run of a log, whole and in pieces, and the laws of it. Paper 01, "The printed run".
+-- The printed run of a log, whole and in pieces, what the code leaves of it, and the laws of it. Paper 01, "The printed run".
 pub mod Run
 pub mod Printed
 pub mod Wholes
@@ -7,5 +7,6 @@ pub mod Ran
 pub mod Last
 pub mod Buffer
 pub mod Turn
+pub mod Course
 pub mod Laws
 pub mod Listing

@@ -1,6 +1,6 @@
 -- The program ends: each of its turns comes further on, reads more, or comes to the input's end. Assumes nothing.
 use mathlib.Core.Bool.{Bool, true, false, cond}
-use mathlib.Core.Path.{_≡_, refl}
+use mathlib.Core.Path.{_≡_}
 use Prim.Native.Nat.{ℕ, _+_, _-_, _≤_, _<_}
 use native.Mathlib.Omega.{arith}
 use borrow.Author.Tests.{eqb-false}
@@ -23,7 +23,12 @@ module _ (held base held' base' : ℕ) (exact : base' + held' ≡ base + held) (
   less-behind false more = omega arith
 
   -- A read gives more, or says that the input is at its end.
-  pub less-unread : (now : ℕ) (done : Bool) → held' ≤ held → held' ≤ now → done ≡ false → ahead now base' (eqb now held') < ahead held base done
+  pub less-unread :
+      (now : ℕ) (done : Bool) →
+      held' ≤ held →
+      held' ≤ now →
+      done ≡ false →
+      ahead now base' (eqb now held') < ahead held base done
   less-unread now done less more short =
       rw short
       (by-test (eqb now held') (λ t. rw t (omega arith)) (λ t. let other = eqb-false now held' t in rw t (omega arith)))

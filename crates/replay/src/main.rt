@@ -1,9 +1,8 @@
 // Prints the run of the log on standard input. Only the calls that read and write are here: what is read, what is held and what is
 // written is up to `turn`. Paper 01, "The printed run".
-ghost use mathlib.Core.Path.{_≡_};
 ghost use Prim.Native.Nat.{_≤_};
 ghost use lib.ListN.{length};
-ghost use Rattle.replay.specs.Fill.{Fills};
+ghost use Rattle.replay.specs.Fill.{Filled};
 use libc::STDERR_FILENO;
 use libc::STDIN_FILENO;
 use libc::STDOUT_FILENO;
@@ -11,7 +10,7 @@ use printout::turn::Next;
 use printout::turn::turn;
 use steps::load::open_fresh;
 
-// What a read came to: how many bytes the buffer holds then.
+// What a read came to: how many bytes the buffer holds then, or that it failed.
 pub enum Fill {
     Held(usize),
     Failed,
@@ -20,8 +19,7 @@ pub enum Fill {
 // Reads behind what the buffer holds.
 fn read_more(buffer: &mut [u8], held: usize) -> Fill
     requires { ⌜ held ≤ length (now buffer) ⌝ }
-    ensures fills { λ r. ⌜ Fills held (length (now (buffer .entry))) r ⌝ }
-    ensures keeps { λ _. ⌜ length (now (buffer .exit)) ≡ length (now (buffer .entry)) ⌝ }
+    ensures { λ r. ⌜ Filled held (now (buffer .entry)) r (now (buffer .exit)) ⌝ }
 {
     let got = libc::read(STDIN_FILENO, &mut buffer[held..]);
     if got < 0 {

@@ -1,9 +1,7 @@
 -- Laws of the last lines as they are put on a page, pair after pair. Assumes nothing.
-use mathlib.Core.List.{List, [], _∷_, _++_}
-use mathlib.Core.Path.{_≡_, refl, ap, sym, _∙_}
+use mathlib.Core.List.{List, [], _++_}
+use mathlib.Core.Path.{refl}
 use Prim.Native.Nat.{ℕ, _+_, _≤_}
-use native.Mathlib.Omega.{arith}
-use Rattle.transit.specs.Mail.{Mail, messagesIn}
 use Rattle.transit.specs.declared.Message.{Message}
 use Rattle.page.specs.Laws.Put.{nothing, at-most, _then_}
 use Rattle.page.specs.Put.{Put}

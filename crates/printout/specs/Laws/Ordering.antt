@@ -1,6 +1,6 @@
 -- The ordering claim for what a run from the fresh state leaves: the steps that the run takes are a list of steps, and it leaves what
 -- the list leaves; after any number of whole records, and after a run in pieces. Paper 01, "Lists of steps". Assumes nothing.
-use mathlib.Core.Path.{_≡_, refl, ap, sym, _∙_}
+use mathlib.Core.Path.{_≡_, refl, ap, sym, subst, _∙_}
 use mathlib.Core.Bool.{true, cond}
 use mathlib.Core.List.{List, [], _∷_, _++_, map}
 use Prim.Native.Nat.{ℕ, zero, suc, _<_}
@@ -13,9 +13,11 @@ use Rattle.broker.specs.State.{State, fresh}
 use Rattle.ordering.specs.Claim.{Reading, SecondList, after, accepted, taken, sent, unread, noMoveOpen}
 use Rattle.ordering.specs.Ordering.{ordering}
 use Rattle.ordering.specs.Runs.{fresh-sound}
+use Rattle.checks.specs.Look.{nameFor}
 use Rattle.printout.specs.Laws.Pieces.{run-in-pieces}
 use Rattle.printout.specs.Laws.Steps.{same-state}
 use Rattle.printout.specs.Pieces.{Turn, allBytes, inPieces}
+use Rattle.printout.specs.Ran.{Ran, RanSome}
 use Rattle.printout.specs.Run.{Answered, Came, Naming, nameIn, stepBy, stops, runLog}
 use Rattle.printout.specs.Wholes.{wholes}
 
@@ -91,3 +93,18 @@ module _ (named : Naming) where
       let log = allBytes ts in
       let c = inPieces named 0 fresh [] ts in
       run-ordered (length log) log (c .state) (ap (λ (c : Came). c .state) (sym (run-in-pieces named ts fresh fresh-sound)))
+
+-- They hold of what a run of some whole records of a log leaves, and so of runs in a row (`ran-longer` and `ran-on`).
+pub ran-ordered :
+    {log : List ℕ} {steps : ℕ} {state : State} {at : ℕ} {text : List ℕ} →
+    Ran fresh log 0 steps state at text →
+    Ordered nameFor steps log state
+ran-ordered {log} {steps} i =
+    subst (λ (c : Came). Ordered nameFor steps log (c .state)) (sym (i .came)) (wholes-ordered nameFor steps log)
+
+-- They hold of what `run_piece` leaves of a first piece.
+pub piece-ordered :
+    {piece : List ℕ} {room : ℕ} {state : State} {at used steps : ℕ} {page : List ℕ} →
+    RanSome fresh piece 0 room state at used steps page →
+    Ordered nameFor steps piece state
+piece-ordered i = ran-ordered (i .ran fresh-sound)

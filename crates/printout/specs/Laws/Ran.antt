@@ -1,10 +1,12 @@
--- Laws of a run of a piece: it begins with no record, and goes on record by record. Assumes nothing.
+-- Laws of a run of a piece: it begins with no record, goes on record by record, and runs in a row are one run. Assumes nothing.
 use mathlib.Core.Path.{_≡_, refl, ap, sym, subst, _∙_}
 use mathlib.Core.Bool.{true}
 use mathlib.Core.List.{List, [], _∷_, _++_, append-nil}
 use Prim.Native.Nat.{ℕ, suc, _+_, _≤_}
+use native.Mathlib.Nat.{add-zero}
 use native.Mathlib.Omega.{arith}
-use lib.ListN.{length, take, getD, length-append}
+use lib.ListN.{length, take, drop, getD, length-append, take-append-drop}
+use lib.Seq.{length-take-le}
 use Rattle.page.specs.Laws.Put.{shows}
 use Rattle.page.specs.Put.{Put}
 use Rattle.lines.specs.Lines.{recordLine, recordRoom}
@@ -17,11 +19,11 @@ use Rattle.broker.specs.declared.record.Record.{Record}
 use Rattle.checks.specs.Look.{nameFor}
 use Rattle.printout.specs.Laws.Steps.{settled-sound}
 use Rattle.printout.specs.Laws.Text.{lines-append}
-use Rattle.printout.specs.Laws.Wholes.{further, no-steps-yet, one-last}
+use Rattle.printout.specs.Laws.Wholes.{further, no-steps-yet, one-last, run-within, in-a-row, run-stays, movedBy, wholes-behind}
 use Rattle.printout.specs.Laws.Window.{passes, stands}
 use Rattle.printout.specs.Printed.{linesOf}
 use Rattle.printout.specs.Ran.{Ran, RanSome}
-use Rattle.printout.specs.Run.{Answered, Came}
+use Rattle.printout.specs.Run.{Came, behind}
 use Rattle.printout.specs.Wholes.{answeredAt, settled, wholes}
 
 -- A run of no records.
@@ -95,4 +97,46 @@ some-more {s} {piece} {base} {steps = steps} {page = page} i r next e x f after 
       keeps = p .room ∙ i .keeps;
       taken = omega (arith, p .within, i .taken);
       moved = omega (arith, i .moved);
+    }
+
+-- What was run of a piece was run of the piece and what follows it.
+pub ran-longer :
+    {s : State} {piece : List ℕ} {base steps : ℕ} {state : State} {at : ℕ} {text : List ℕ} →
+    Ran s piece base steps state at text →
+    (more : List ℕ) →
+    Ran s (piece ++ more) base steps state at text
+ran-longer {s} {piece} {base} {steps} i more =
+    let all = ap (λ (c : Came). length (c .answers)) (sym (i .came)) ∙ i .counted in
+    record {
+      answers = i .answers;
+      came = i .came ∙ sym (run-stays nameFor base piece more steps s 0 all);
+      counted = i .counted;
+      stays = i .stays;
+      shown = i .shown;
+    }
+
+-- What was run of a log, and then of what is left of it, was run of the log.
+pub ran-on :
+    {s : State} {log : List ℕ} {base steps : ℕ} {state : State} {at : ℕ} {text : List ℕ} →
+    Ran s log base steps state at text →
+    {steps' : ℕ} {state' : State} {at' : ℕ} {text' : List ℕ} →
+    Ran state (drop at log) (base + at) steps' state' at' text' →
+    Ran s log base (steps + steps') state' (at + at') (text ++ text')
+ran-on {s} {log} {base} {steps} {state} {at} i {steps'} j =
+    let w = wholes nameFor base steps s log 0 in
+    let there : at ≤ length log =
+    subst (λ (c : Came). c .at ≤ length log) (sym (i .came)) (run-within nameFor base log steps s 0 (omega arith)) in
+    let moved =
+    rw (length-take-le at log there, take-append-drop at log, add-zero at) at
+    (wholes-behind nameFor base (take at log) (drop at log) steps' state 0) in
+    record {
+      answers = i .answers ++ j .answers;
+      came =
+          ap (λ (c : Came). behind (i .answers) (movedBy at c)) (j .came) ∙
+          ap (behind (i .answers)) (sym moved) ∙
+          ap (λ (c : Came). behind (c .answers) (wholes nameFor base steps' (c .state) log (c .at))) (i .came) ∙
+          sym (in-a-row nameFor base log steps' steps s 0);
+      counted = length-append (i .answers) (j .answers) ∙ omega (arith, i .counted, j .counted);
+      stays = j .stays;
+      shown = rw (i .shown, j .shown) (sym (lines-append (i .answers) (j .answers)));
     }

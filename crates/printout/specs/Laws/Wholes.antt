@@ -4,6 +4,7 @@ use mathlib.Core.Path.{_≡_, refl, ap, sym, _∙_}
 use mathlib.Core.Bool.{false}
 use mathlib.Core.List.{List, [], _∷_, _++_}
 use Prim.Native.Nat.{ℕ, zero, suc, _+_, _≤_}
+use native.Mathlib.Nat.{zero-add}
 use native.Mathlib.Omega.{arith}
 use lib.ListN.{length, length-append, List·getD-append}
 use Rattle.broker.specs.Record.{decode}
@@ -162,6 +163,21 @@ module _ (named : Naming) (base : ℕ) (piece more : List ℕ) where
       all-but-one named base log s at r next (whole-stays piece more at r next e) ∙
       rw same (ap (ahead named base piece s at r) later))
 
+-- Some whole records, and then some more, are as many in a row.
+module _ (named : Naming) (base : ℕ) (log : List ℕ) where
+  pub in-a-row :
+      (m n : ℕ) (s : State) (at : ℕ) →
+      let w = wholes named base n s log at in
+      wholes named base (n + m) s log at ≡ behind (w .answers) (wholes named base m (w .state) log (w .at))
+  in-a-row m =
+      along named base log
+      (λ n s at c. wholes named base (n + m) s log at ≡ behind (c .answers) (wholes named base m (c .state) log (c .at)))
+      (λ s at. rw (zero-add m))
+      (λ n s at none. none-run named base log (suc n + m) s at none ∙ sym (none-run named base log m s at none))
+      (λ n s at r next e c later.
+      let one-more : suc n + m ≡ suc (n + m) = omega arith in
+      rw one-more (one-first named base log (n + m) s at r next e ∙ ap (ahead named base log s at r) later))
+
 -- What whole records come to, so many bytes further on.
 abbrev pub movedBy : ℕ → Came → Came
 movedBy k c = record { state = c .state; at = k + c .at; answers = c .answers }
@@ -170,6 +186,21 @@ moved-whole : (k : ℕ) (d : Decoded) → isWhole (moved k d) ≡ isWhole d
 moved-whole k (Whole r next) = refl
 moved-whole k Unknown = refl
 moved-whole k Cut = refl
+
+-- Records that were run of a piece are run of the piece and what follows it.
+pub run-stays :
+    (named : Naming) (base : ℕ) (piece more : List ℕ) (n : ℕ) (s : State) (at : ℕ) →
+    length (wholes named base n s piece at .answers) ≡ n →
+    wholes named base n s (piece ++ more) at ≡ wholes named base n s piece at
+run-stays named base piece more =
+    along named base piece (λ n s at c. length (c .answers) ≡ n → wholes named base n s (piece ++ more) at ≡ c)
+    (λ s at h. no-steps-yet named base (piece ++ more) s at)
+    (λ n s at none h. absurd (omega arith))
+    (λ n s at r next e c later h.
+    let there = stands piece at r next e .inside in
+    let same = List·getD-append piece more 0 at there in
+    one-first named base (piece ++ more) n s at r next (whole-stays piece more at r next e) ∙
+    rw same (ap (ahead named base piece s at r) (later (omega arith))))
 
 -- What stands before a log is no part of a step's position in the input, or of its kind.
 pub answered-behind :

@@ -1,13 +1,16 @@
--- `replay::main` is safe and ends. The loop's invariant: the arrays hold a desk, the buffer and the page are as long as they were, and no
--- turn begins too far ahead. Assumes nothing.
+-- `replay::main` is safe and ends. The loop's invariant: the arrays hold a desk, and with what is held it stands so in a course, whose
+-- laws say what was written; the buffer and the page are as long as they were, and no turn begins too far ahead. Assumes nothing.
 use mathlib.Core.List.{[]}
 use mathlib.Core.Path.{_≡_, sym, _∙_}
-use Prim.Native.Nat.{_≤_}
+use Prim.Native.Nat.{ℕ, _≤_}
 use native.Mathlib.Omega.{arith}
 use borrow.Author.Needs.{needs}
 use lib.ListN.{length, take}
 use lib.Seq.{length-take-le}
-use Rattle.checks.specs.Desk.{Desk}
+use Rattle.checks.specs.Desk.{deskOf, Desk}
+use Rattle.printout.specs.Laws.Course.{stands-sound, stands-on, stands-filled}
+use Rattle.printout.specs.Course.{Stands}
+use Rattle.printout.specs.Course.Course.{begun}
 use Rattle.printout.specs.Turn.{bufferRoom, Because}
 use Rattle.printout.specs.declared.turn.Next.the-variants.{Again, Read}
 use Rattle.replay.specs.Fill.{Fills}
@@ -19,6 +22,7 @@ use Rattle.replay.proofs.main.Tie as tie
 abbrev Inv-loop : tie.InvT-loop
 Inv-loop buffer₀ page₀ slots₀ contents₀ roster₀ held₀ base₀ done₀ t14 t15 t16 buffer page slots contents roster held base done =
     Desk slots contents roster ×
+    Stands (deskOf slots contents roster) base (take held buffer) done ×
     (length buffer ≡ bufferRoom) ×
     (length page ≡ bufferRoom) ×
     (held ≤ bufferRoom) ×
@@ -40,7 +44,14 @@ open-fresh-requires c κs = search needs
 loop-holds : tie.Need-loop-holds Inv-loop μ-loop
 loop-holds c =
     let second = c .before .before .before .before in
-    (c .open-fresh .ensures .desk, sym (second .before .large-buffer .ensures), sym (second .large-buffer2 .ensures), omega arith, omega arith)
+    let opened = c .open-fresh .ensures in (
+      opened .desk,
+      rw (opened .same) (record { read = []; written = []; course = begun }),
+      sym (second .before .large-buffer .ensures),
+      sym (second .large-buffer2 .ensures),
+      omega arith,
+      omega arith,
+    )
 
 slice-aggregate-turn : tie.Need-slice-aggregate-turn Inv-loop μ-loop
 slice-aggregate-turn c = search needs
@@ -89,7 +100,7 @@ loop-less c =
     let turn = c .before .before .before .before .before .before .before in
     let loop = turn .before .before .before .before .before .before .loop in
     let next = turn .turn .result in
-    less-behind (loop .held) (loop .base) (next .held) (next .base) (turn .turn .ensures .1 .exact) (loop .inv .3) (loop .inv .4)
+    less-behind (loop .held) (loop .base) (next .held) (next .base) (turn .turn .ensures .1 .exact) (loop .inv .4) (loop .inv .5)
     (loop .done) (again c .2)
 
 loop-again : tie.Need-loop-again Inv-loop μ-loop
@@ -98,10 +109,11 @@ loop-again c =
     let inv = turn .before .before .before .before .before .before .loop .inv in
     let turned = turn .turn .ensures .1 in (
       turn .turn .ensures .0,
-      turned .keeps .0 ∙ inv .1,
-      turned .keeps .1 ∙ inv .2,
-      omega (arith, turned .holds, inv .3),
-      omega (arith, turned .exact, again c .0, inv .3),
+      stands-on (inv .1) (turned .shows (stands-sound (inv .1))) (λ e. let z : _≡_ {A = ℕ} 0 1 = cc in omega arith),
+      turned .keeps .0 ∙ inv .2,
+      turned .keeps .1 ∙ inv .3,
+      omega (arith, turned .holds, inv .4),
+      omega (arith, turned .exact, again c .0, inv .4),
     )
 
 enum-told-2 : tie.Need-enum-told-2 Inv-loop μ-loop
@@ -129,7 +141,7 @@ filled :
     let read = c .before .before .before in
     let turn = read .before .before .before .before .before .before .before .before .before in
     Fills (turn .turn .result .held) (length (turn .turn .last .0)) (Held (c .filled .given .0 .0))
-filled c = rw (c .filled .given .1) at (c .before .before .before .read-more .ensures .0)
+filled c = rw (c .filled .given .1) at (c .before .before .before .read-more .ensures .fills)
 
 loop-less-2 : tie.Need-loop-less-2 Inv-loop μ-loop
 loop-less-2 c =
@@ -139,7 +151,7 @@ loop-less-2 c =
     let loop = turn .before .before .before .before .before .before .loop in
     let next = turn .turn .result in
     let turned = turn .turn .ensures .1 in
-    less-unread (loop .held) (loop .base) (next .held) (next .base) (turned .exact) (loop .inv .3) (loop .inv .4)
+    less-unread (loop .held) (loop .base) (next .held) (next .base) (turned .exact) (loop .inv .4) (loop .inv .5)
     (told .filled .given .0 .0) (loop .done) (turned .holds) (filled told .0) (asked ask .1)
 
 loop-again-2 : tie.Need-loop-again-2 Inv-loop μ-loop
@@ -149,12 +161,16 @@ loop-again-2 c =
     let ask = read .before .before in
     let turn = ask .before .before .before .before .before .before .before in
     let inv = turn .before .before .before .before .before .before .loop .inv in
-    let turned = turn .turn .ensures .1 in (
+    let turned = turn .turn .ensures .1 in
+    let behind = stands-on (inv .1) (turned .shows (stands-sound (inv .1))) (λ e. let z : _≡_ {A = ℕ} 0 1 = cc in omega arith) in
+    let fill = read .read-more .ensures in (
       turn .turn .ensures .0,
-      read .read-more .ensures .1 ∙ turned .keeps .0 ∙ inv .1,
-      turned .keeps .1 ∙ inv .2,
-      omega (arith, filled told .1, turned .keeps .0, inv .1),
-      omega (arith, turned .exact, asked ask .0, inv .3),
+      stands-filled (turn .turn .result .held) (turn .turn .last .0) (rw (asked ask .1) at behind) (read .read-more .last .0)
+          (told .filled .given .0 .0) _ (fill .same) (filled told .0),
+      fill .long ∙ turned .keeps .0 ∙ inv .2,
+      turned .keeps .1 ∙ inv .3,
+      omega (arith, filled told .1, turned .keeps .0, inv .2),
+      omega (arith, turned .exact, asked ask .0, inv .4),
     )
 
 enum-told-3 : tie.Need-enum-told-3 Inv-loop μ-loop

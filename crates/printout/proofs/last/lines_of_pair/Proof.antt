@@ -1,13 +1,13 @@
 -- `printout::last::lines_of_pair` meets its contract: nothing where the pair has nothing unread, and else its line. Assumes nothing.
 use mathlib.Core.List.{List, [], _∷_}
-use mathlib.Core.Path.{_≡_, sym, _∙_}
+use mathlib.Core.Path.{sym, _∙_}
 use Prim.Native.Nat.{ℕ}
 use native.Mathlib.Omega.{arith}
 use borrow.Author.Needs.{needs}
 use Rattle.transit.specs.Mail.{messagesIn}
 use Rattle.page.specs.Laws.Put.{nothing, at-most}
 use Rattle.lines.specs.Laws.Parts.{no-line, one-line}
-use Rattle.lines.specs.Lines.{pairLine, countsAtPlaces}
+use Rattle.lines.specs.Lines.{pairLine}
 use Rattle.printout.proofs.last.lines_of_pair.Statement.{statement}
 use Rattle.printout.proofs.last.lines_of_pair.Tie as tie
 
@@ -66,7 +66,8 @@ returns-2 c =
     let else = first .before in
     let between = else .before in
     let args = between .before .before .args in
-    let counts : List ℕ = first .count-at .result ∷ second .count-at2 .result ∷ third .count-at3 .result ∷ fourth .count-at4 .result ∷ [] in
+    let counts : List ℕ =
+    first .count-at .result ∷ second .count-at2 .result ∷ third .count-at3 .result ∷ fourth .count-at4 .result ∷ [] in
     record {
       text = pairLine (args .a) (args .b) counts;
       put = line .pair-line .ensures;

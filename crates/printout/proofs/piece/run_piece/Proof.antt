@@ -1,12 +1,11 @@
 -- `printout::piece::run_piece` meets its contract. The loop's invariant: so many whole records are run, and the page shows their lines.
 -- Assumes nothing.
-use mathlib.Core.Path.{_≡_, sym, _∙_}
+use mathlib.Core.Path.{sym, _∙_}
 use Prim.Native.Nat.{_-_}
 use native.Mathlib.Numerals.{add-one}
 use native.Mathlib.Omega.{arith}
 use borrow.Author.Needs.{needs}
 use lib.ListN.{length}
-use Rattle.broker.specs.Step.{Settlement}
 use Rattle.steps.specs.Record.{at-end}
 use Rattle.checks.specs.Desk.{deskOf, Desk}
 use Rattle.printout.specs.Laws.Ran.{some-none, some-more}
@@ -14,11 +13,6 @@ use Rattle.printout.specs.Laws.Window.{passes}
 use Rattle.printout.specs.Ran.{RanSome}
 use Rattle.printout.proofs.piece.run_piece.Statement.{statement}
 use Rattle.printout.proofs.piece.run_piece.Tie as tie
-use Rattle.printout.proofs.piece.run_piece.Reads as reads
-use Rattle.printout.proofs.piece.run_piece.Lts as lts
-use Rattle.lines.proofs.record_line.Reads as record-line-reads
-use Rattle.settle.proofs.settle.Reads as settle-reads
-use Rattle.steps.proofs.decode.decode.Reads as decode-reads
 
 abbrev Inv-loop : tie.InvT-loop
 Inv-loop piece base page₀ slots₀ contents₀ roster₀ at₀ used₀ steps₀ page slots contents roster at used steps =

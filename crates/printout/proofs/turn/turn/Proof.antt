@@ -3,18 +3,16 @@ use mathlib.Core.Logic.{⊎-elim}
 use mathlib.Core.Path.{_≡_, refl, sym, _∙_}
 use native.Mathlib.Omega.{arith}
 use borrow.Author.Needs.{needs}
+use lib.ListN.{length, take}
 use lib.Seq.{length-take-le}
 use Rattle.printout.specs.Laws.Turn.{turn-again, turn-on, turn-ends}
-use Rattle.printout.specs.Turn.{nextOf}
 use Rattle.printout.specs.declared.turn.Next.the-variants.{End}
 use Rattle.printout.proofs.turn.turn.Statement.{statement}
 use Rattle.printout.proofs.turn.turn.Tie as tie
-use Rattle.printout.proofs.turn.turn.Reads as reads
-use Rattle.printout.proofs.turn.turn.Lts as lts
-use Rattle.printout.proofs.buffer.keep_rest.Reads as keep-rest-reads
-use Rattle.printout.proofs.ending.run_end.Reads as run-end-reads
-use Rattle.printout.proofs.piece.run_piece.Reads as run-piece-reads
-use Rattle.printout.proofs.turn.next_of.Reads as next-of-reads
+
+-- What the buffer holds is as long as it says.
+long : (c : tie.Start) → length (take (c .args .held) (c .args .buffer .now)) ≡ c .args .held
+long c = length-take-le (c .args .held) (c .args .buffer .now) (c .pre .1 .0)
 
 returns : tie.Need-returns
 returns c =
@@ -34,29 +32,24 @@ slice-reshare-prefix-run-piece : tie.Need-slice-reshare-prefix-run-piece
 slice-reshare-prefix-run-piece c = search needs
 
 slice-aggregate-run-piece : tie.Need-slice-aggregate-run-piece
-slice-aggregate-run-piece c =
-    let start = c .before .before .before .before in
-    sym (length-take-le (start .args .held) (start .args .buffer .now) (start .pre .1 .0))
+slice-aggregate-run-piece c = sym (long (c .before .before .before .before))
 
 run-piece-requires : tie.Need-run-piece-requires
 run-piece-requires c κs =
     let start = c .before .before .before .before .before .before .before .before in
-    (start .pre .0, omega (arith, length-take-le (start .args .held) (start .args .buffer .now) (start .pre .1 .0)))
+    (start .pre .0, omega (arith, long start))
 
 keep-rest-requires : tie.Need-keep-rest-requires
 keep-rest-requires c κs =
     let ran = c .before .before .before in
-    let start = ran .before .before .before .before .before .before .before .before .before in (
-      omega
-          (arith, ran .run-piece .ensures .1 .0 .inside, length-take-le (start .args .held) (start .args .buffer .now) (start .pre .1 .0)),
-      start .pre .1 .0,
-    )
+    let start = ran .before .before .before .before .before .before .before .before .before in
+    (omega (arith, ran .run-piece .ensures .1 .0 .inside, long start), start .pre .1 .0)
 
 add-further : tie.Need-add-further
 add-further c =
     let ran = c .before .before .before .before .before .before in
     let start = ran .before .before .before .before .before .before .before .before .before in
-    omega (arith, ran .run-piece .ensures .1 .0 .inside, length-take-le (start .args .held) (start .args .buffer .now) (start .pre .1 .0))
+    omega (arith, ran .run-piece .ensures .1 .0 .inside, long start)
 
 next-of-requires : tie.Need-next-of-requires
 next-of-requires c κs = search needs
@@ -81,8 +74,8 @@ returns-2 c =
     let start = near .before .before .before in
     let piece = ran .run-piece .ensures in (
       piece .0,
-      turn-again (piece .1 .0) (rest .keep-rest .ensures) (start .pre .1 .0) (start .pre .1 .2) (near .if1 .left) (start .args .done)
-          (omega arith),
+      turn-again (piece .1 .0) (rest .keep-rest .ensures) (start .pre .1 .0) (start .pre .1 .2) (near .if1 .left)
+          (start .args .done) (omega arith),
     )
 
 slice-reshare-prefix-run-end : tie.Need-slice-reshare-prefix-run-end
@@ -118,10 +111,9 @@ returns-3 c =
     let piece = ran .run-piece .ensures in
     let end = ended .run-end .ensures in (
       piece .0,
-      turn-ends (piece .1 .0) (rest .keep-rest .ensures) (start .pre .1 .0) (start .pre .1 .2) (near .if1 .left) (end .put)
-          (omega (arith, space .if2 .left))
-          (end .same _ (piece .0 .mail)) (ran .run-piece .result .stop) (start .args .done) (piece .1 .1)
-          (sym (next .next-of .ensures) ∙ told .enum-told .given .1),
+      turn-ends (piece .1 .0) (rest .keep-rest .ensures) (start .pre .1 .0) (start .pre .1 .2) (near .if1 .left)
+          (end .put) (omega (arith, space .if2 .left)) (end .same _ (piece .0 .mail))
+          (ran .run-piece .result .stop) (start .args .done) (piece .1 .1) (sym (next .next-of .ensures) ∙ told .enum-told .given .1),
     )
 
 same-length-5 : tie.Need-same-length-5
