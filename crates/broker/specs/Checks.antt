@@ -5,14 +5,14 @@ use mathlib.Core.List.{List, [], _∷_}
 use mathlib.Core.Option.{Option, none, some}
 use Prim.Native.Nat.{ℕ}
 use lib.Dec.{eqb, leb, ltb}
-use Rattle.transit.specs.Lists.{every, tally}
-use Rattle.transit.specs.Message.{sameRank, between, to, at}
+use Rattle.base.specs.Lists.{every, tally, anyOf}
+use Rattle.transit.specs.Message.{sameRank, between, to, at, isRank}
 use Rattle.transit.specs.Unread.{limit}
 use Rattle.transit.specs.declared.Place.the-variants.{SourceChannel}
 use Rattle.transit.specs.declared.Rank.{Rank}
 use Rattle.broker.specs.Kind
 use Rattle.broker.specs.Names.{hosts, numbers, isStarted, isMigrating, isEnded, endpoint, isOpenRequest, asksFor, isClosed, isClosing, isClear, isUnheeded}
-use Rattle.broker.specs.Ranks.{isRank, anyOf, everyRank}
+use Rattle.broker.specs.Ranks.{everyRank}
 use Rattle.broker.specs.Record.{kindOf, firstRank, secondRank, namedHost}
 use Rattle.broker.specs.State.{State, status, request, connection, backlog, drawnOn, messages}
 use Rattle.broker.specs.declared.answer.Refusal.{Refusal}

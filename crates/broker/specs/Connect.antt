@@ -4,16 +4,28 @@ use mathlib.Core.Bool.{cond}
 use mathlib.Core.List.{List}
 use Prim.Native.Nat.{ℕ}
 use lib.ListN.{set}
-use Rattle.transit.specs.Lists.{tally}
+use Rattle.base.specs.Lists.{tally}
 use Rattle.transit.specs.Message.{picks}
 use Rattle.transit.specs.Unread.{relabelAll}
-use Rattle.transit.specs.declared.Place.the-variants.{List as EndList, Channel}
+use Rattle.transit.specs.declared.Place.the-variants.{EndList, Channel}
 use Rattle.transit.specs.declared.Rank.{Rank}
 use Rattle.transit.specs.declared.Selection.{Selection}
 use Rattle.transit.specs.declared.Selection.the-variants.{BetweenAt}
-use Rattle.broker.specs.Life.{Done, done}
+use Rattle.broker.specs.Done.{Done, done}
 use Rattle.broker.specs.Names.{sameVmid, isEnded, endpoint, asksFor, postedTo}
-use Rattle.broker.specs.State.{State, cell, linkAt, setLink, status, request, location, messages, withRequest, withLocations, withLinks, withUnread}
+use Rattle.broker.specs.State.{
+  State,
+  cell,
+  status,
+  request,
+  location,
+  messages,
+  withRequest,
+  withLocations,
+  withLinks,
+  withUnread,
+  connect,
+}
 use Rattle.broker.specs.declared.link.Connection.{Connection}
 use Rattle.broker.specs.declared.link.Connection.the-variants.{Closed, Open}
 use Rattle.broker.specs.declared.link.Link.{Link}
@@ -24,10 +36,6 @@ use Rattle.broker.specs.declared.process.Vmid.{Vmid}
 unfoldable pub call : Rank → Rank → State → Done
 call a b s =
     done (withRequest a (Posted b (location s a b)) s) (location s a b .0) (location s a b .1) 0
-
--- a's line to b, and nothing else
-abbrev pub connect : Rank → Rank → Connection → List Link → List Link
-connect a b c ls = setLink ls a b (record { connection = c; backlog = linkAt ls a b .backlog })
 
 -- both lines between a and b
 abbrev pub connectBoth : Rank → Rank → Connection → State → State

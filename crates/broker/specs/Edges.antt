@@ -4,11 +4,11 @@ use mathlib.Core.Bool.{Bool, true, false, not, _&&_}
 use mathlib.Core.List.{List, [], _∷_, _++_}
 use Prim.Native.Nat.{ℕ}
 use lib.Dec.{eqb}
-use Rattle.transit.specs.Lists.{every}
+use Rattle.base.specs.Lists.{every}
 use Rattle.broker.specs.Answer.{number}
 use Rattle.broker.specs.Kind
 use Rattle.broker.specs.Names.{isOpenRequest, isRunning, isMigrating, isClosed, isOpen, isMarked}
-use Rattle.broker.specs.Ranks.{rank}
+use Rattle.transit.specs.Message.{rank}
 use Rattle.broker.specs.State.{State, fresh, status, request, connection, backlog}
 use Rattle.broker.specs.Step.{Outcome, step}
 

@@ -14,13 +14,11 @@ pub mod Fit
 pub mod Kept
 pub mod Leaving
 pub mod Links
-pub mod Logic
 pub mod Migrating
 pub mod Names
 pub mod Opened
 pub mod Quiet
 pub mod Ranks
-pub mod Rising
 pub mod Sound
 pub mod Standings
 pub mod State

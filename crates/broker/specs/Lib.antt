@@ -2,6 +2,7 @@
 pub mod Answer
 pub mod Checks
 pub mod Connect
+pub mod Done
 pub mod Edges
 pub mod Kind
 pub mod Laws

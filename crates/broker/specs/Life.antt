@@ -4,29 +4,12 @@ use mathlib.Core.List.{List}
 use Prim.Native.Nat.{ℕ, _+_}
 use lib.ListN.{set}
 use Rattle.transit.specs.declared.Rank.{Rank}
-use Rattle.broker.specs.Names.{vmid, endpoint}
+use Rattle.broker.specs.Done.{Done, done}
+use Rattle.broker.specs.Names.{endpoint}
 use Rattle.broker.specs.Ranks.{eachRank}
-use Rattle.broker.specs.State.{State, cell, status, drawnOn, withStatus, withLocations, withDrawn}
+use Rattle.broker.specs.State.{State, cell, status, drawnOn, withStatus, withLocations, nextVmid, draw}
 use Rattle.broker.specs.declared.process.Status.the-variants.{Running, Ended}
 use Rattle.broker.specs.declared.process.Vmid.{Vmid}
-
--- what an accepted step leaves: the state, and v1, v2 and v3
-pub record Done : Type 0 where
-  pub state : State
-  pub v1 : ℕ
-  pub v2 : ℕ
-  pub v3 : ℕ
-
-abbrev pub done : State → ℕ → ℕ → ℕ → Done
-done s v1 v2 v3 = record { state = s; v1 = v1; v2 = v2; v3 = v3 }
-
--- "h's next number"
-abbrev pub nextVmid : State → ℕ → Vmid
-nextVmid s h = vmid h (drawnOn s h + 1)
-
--- that number is drawn
-abbrev pub draw : ℕ → State → State
-draw h s = withDrawn h (drawnOn s h + 1) s
 
 -- "everybody's entry for r becomes that vmid"
 unfoldable pub announced : Rank → Vmid → List Vmid → List Vmid

@@ -1,7 +1,7 @@
 -- Send, take and look: what each does to the state and answers. Paper 01, "The step log", kinds 04, 05 and 0C.
 -- Assumes nothing.
 use Prim.Native.Nat.{ℕ}
-use Rattle.transit.specs.Lists.{tally}
+use Rattle.base.specs.Lists.{tally}
 use Rattle.transit.specs.Message.{between}
 use Rattle.transit.specs.Unread.{appended, AfterRemove, removed, valueIn}
 use Rattle.transit.specs.declared.Message.{Message}
@@ -9,7 +9,7 @@ use Rattle.transit.specs.declared.Place.{Place}
 use Rattle.transit.specs.declared.Place.the-variants.{SourceChannel, Channel}
 use Rattle.transit.specs.declared.Rank.{Rank}
 use Rattle.transit.specs.declared.Selection.the-variants.{Between}
-use Rattle.broker.specs.Life.{Done, done}
+use Rattle.broker.specs.Done.{Done, done}
 use Rattle.broker.specs.State.{State, connection, messages, withUnread}
 use Rattle.broker.specs.declared.link.Connection.{Connection}
 use Rattle.broker.specs.declared.link.Connection.the-variants.{Closed, Open, Closing}

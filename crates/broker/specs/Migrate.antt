@@ -3,22 +3,38 @@
 use mathlib.Core.Bool.{not}
 use mathlib.Core.List.{List}
 use Prim.Native.Nat.{ℕ, _+_}
-use Rattle.transit.specs.Lists.{tally}
+use Rattle.base.specs.Lists.{tally}
 use Rattle.transit.specs.Message.{picks}
 use Rattle.transit.specs.Unread.{Unread, relabelAll, relabelFirst, firstSent}
 use Rattle.transit.specs.declared.Found.{Found}
 use Rattle.transit.specs.declared.Found.the-variants.{First, Nothing}
-use Rattle.transit.specs.declared.Place.the-variants.{SourceList, SourceChannel, List as EndList, Channel}
+use Rattle.transit.specs.declared.Place.the-variants.{SourceList, SourceChannel, EndList, Channel}
 use Rattle.transit.specs.declared.Rank.{Rank}
 use Rattle.transit.specs.declared.Selection.{Selection}
 use Rattle.transit.specs.declared.Selection.the-variants.{ToAt, BetweenAt}
-use Rattle.broker.specs.Connect.{connect, onChannel}
-use Rattle.broker.specs.Life.{Done, done, nextVmid, draw}
+use Rattle.broker.specs.State.{
+  connect,
+  nextVmid,
+  draw,
+  State,
+  linkAt,
+  setLink,
+  status,
+  backlog,
+  drawnOn,
+  messages,
+  withStatus,
+  withLinks,
+  withUnread,
+  await,
+  awaitsOf,
+}
+use Rattle.broker.specs.Connect.{onChannel}
+use Rattle.broker.specs.Done.{Done, done}
 use Rattle.broker.specs.Names.{endpoint, isClear}
 use Rattle.broker.specs.Ranks.{countRanks, eachRank}
-use Rattle.broker.specs.State.{State, linkAt, setLink, status, backlog, drawnOn, messages, withStatus, withLinks, withUnread}
 use Rattle.broker.specs.declared.link.Backlog.{Backlog}
-use Rattle.broker.specs.declared.link.Backlog.the-variants.{Clear, Open as Unheeded, Marked}
+use Rattle.broker.specs.declared.link.Backlog.the-variants.{Clear, Unheeded, Marked}
 use Rattle.broker.specs.declared.link.Connection.{Connection}
 use Rattle.broker.specs.declared.link.Connection.the-variants.{Closed, Open, Closing}
 use Rattle.broker.specs.declared.link.Link.{Link}
@@ -28,14 +44,6 @@ use Rattle.broker.specs.declared.process.Vmid.{Vmid}
 -- "Messages to r at place 2 go to 0, at 3 to 1."
 abbrev pub leftBehind : Rank → Unread → Unread
 leftBehind r u = relabelAll (ToAt r Channel) SourceChannel (relabelAll (ToAt r EndList) SourceList u)
-
--- r's await of p, and nothing else
-abbrev pub await : Rank → Rank → Backlog → List Link → List Link
-await r p g ls = setLink ls r p (record { connection = linkAt ls r p .connection; backlog = g })
-
--- how many awaits of r are not none
-abbrev pub awaitsOf : Rank → List Link → ℕ
-awaitsOf r ls = countRanks (λ p. not (isClear (linkAt ls r p .backlog)))
 
 -- "if r's line to s is plain, r's await is unheeded and s's line to r is notice; if it is notice, both r's await of s and s's await
 -- of r are marked. r's own lines become none."

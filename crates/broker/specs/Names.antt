@@ -7,7 +7,7 @@ use lib.Dec.{eqb}
 use Rattle.transit.specs.Message.{sameRank}
 use Rattle.transit.specs.declared.Rank.{Rank}
 use Rattle.broker.specs.declared.link.Backlog.{Backlog}
-use Rattle.broker.specs.declared.link.Backlog.the-variants.{Clear, Open as Unheeded, Marked}
+use Rattle.broker.specs.declared.link.Backlog.the-variants.{Clear, Unheeded, Marked}
 use Rattle.broker.specs.declared.link.Connection.{Connection}
 use Rattle.broker.specs.declared.link.Connection.the-variants.{Closed, Open, Closing}
 use Rattle.broker.specs.declared.process.Request.{Request}

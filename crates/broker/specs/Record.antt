@@ -7,7 +7,7 @@ use lib.Dec.{eqb, leb, ltb}
 use lib.ListN.{length, getD}
 use Rattle.transit.specs.declared.Rank.{Rank}
 use Rattle.broker.specs.Kind
-use Rattle.broker.specs.Ranks.{rank}
+use Rattle.transit.specs.Message.{rank}
 use Rattle.broker.specs.declared.record.Decoded.{Decoded}
 use Rattle.broker.specs.declared.record.Decoded.the-variants.{Whole, Unknown, Cut}
 use Rattle.broker.specs.declared.record.Record.{Record}

@@ -5,14 +5,15 @@ use mathlib.Core.List.{List, [], _∷_, map}
 use Prim.Native.Nat.{ℕ}
 use lib.Dec.{eqb, leb, ltb}
 use lib.ListN.{length}
-use Rattle.transit.specs.Lists.{select, every, neverFalls}
-use Rattle.transit.specs.Message.{between, at, placeNumber, sameRank}
+use Rattle.base.specs.Lists.{select, every, neverFalls}
+use Rattle.transit.specs.Message.{between, at, placeNumber, sameRank, isRank}
 use Rattle.transit.specs.Unread.{limit}
 use Rattle.transit.specs.declared.Message.{Message}
 use Rattle.transit.specs.declared.Place.the-variants.{SourceList, SourceChannel, Channel}
 use Rattle.transit.specs.declared.Rank.{Rank}
 use Rattle.broker.specs.Names.{hosts, numbers, unknown, sameVmid, isStarted, isRunning, isMigrating, isLive, processesOf, vmidsOf, asksFor, isClosed, isOpen, isClosing, isClear, isUnheeded}
-use Rattle.broker.specs.Ranks.{isRank, allBelow, everyRank, everyPair}
+use Rattle.broker.specs.Ranks.{everyRank, everyPair}
+use Rattle.base.specs.Below.{allBelow}
 use Rattle.broker.specs.State.{State, status, request, location, connection, backlog, drawnOn, messages}
 use Rattle.broker.specs.declared.process.Request.{Request}
 use Rattle.broker.specs.declared.process.Request.the-variants.{Absent, Posted}

@@ -1,12 +1,14 @@
 -- The abstract state, its parts and their changes, and the fresh state. Paper 01, "Names and places".
 -- Assumes nothing.
+use mathlib.Core.Bool.{not}
 use mathlib.Core.List.{List}
 use Prim.Native.Nat.{ℕ, _+_, _*_}
 use lib.ListN.{getD, set, replicate}
-use Rattle.transit.specs.Unread.{Unread, nothing, view as viewTransit}
+use Rattle.transit.specs.Unread.{Unread, nothing, unreadOf}
 use Rattle.transit.specs.declared.Message.{Message}
 use Rattle.transit.specs.declared.Rank.{Rank}
-use Rattle.broker.specs.Names.{unknown}
+use Rattle.broker.specs.Names.{unknown, vmid, isClear}
+use Rattle.broker.specs.Ranks.{countRanks}
 use Rattle.broker.specs.declared.link.Backlog.{Backlog}
 use Rattle.broker.specs.declared.link.Backlog.the-variants.{Clear}
 use Rattle.broker.specs.declared.link.Connection.{Connection}
@@ -31,13 +33,13 @@ pub record State : Type 0 where
 
 -- what a `Broker` holds: all of it but the unused message slots
 abbrev pub view : Broker → State
-view b =
+view broker =
     record {
-      processes = b .processes;
-      locations = b .locations;
-      links = b .links;
-      drawn = b .drawn;
-      unread = viewTransit (b .transit);
+      processes = broker .processes;
+      locations = broker .locations;
+      links = broker .links;
+      drawn = broker .drawn;
+      unread = unreadOf (broker .transit);
     }
 
 abbrev pub idle : Process
@@ -135,3 +137,23 @@ withDrawn h n s =
 abbrev pub withUnread : Unread → State → State
 withUnread u s =
     record { processes = s .processes; locations = s .locations; links = s .links; drawn = s .drawn; unread = u }
+
+-- "h's next number"
+abbrev pub nextVmid : State → ℕ → Vmid
+nextVmid s h = vmid h (drawnOn s h + 1)
+
+-- that number is drawn
+abbrev pub draw : ℕ → State → State
+draw h s = withDrawn h (drawnOn s h + 1) s
+
+-- a's line to b, and nothing else
+abbrev pub connect : Rank → Rank → Connection → List Link → List Link
+connect a b c ls = setLink ls a b (record { connection = c; backlog = linkAt ls a b .backlog })
+
+-- r's await of p, and nothing else
+abbrev pub await : Rank → Rank → Backlog → List Link → List Link
+await r p g ls = setLink ls r p (record { connection = linkAt ls r p .connection; backlog = g })
+
+-- how many awaits of r are not none
+abbrev pub awaitsOf : Rank → List Link → ℕ
+awaitsOf r ls = countRanks (λ p. not (isClear (linkAt ls r p .backlog)))

@@ -5,12 +5,13 @@ use mathlib.Core.List.{List}
 use mathlib.Core.Option.{Option, none, some}
 use mathlib.Core.Path.{_≡_}
 use Prim.Native.Nat.{ℕ, _<_}
-use Rattle.transit.specs.Lists.{tally}
+use Rattle.base.specs.Lists.{tally}
 use Rattle.transit.specs.Message.{between}
 use Rattle.transit.specs.declared.Rank.{Rank}
 use Rattle.broker.specs.Checks.{refusal}
 use Rattle.broker.specs.Connect.{call, route, part}
-use Rattle.broker.specs.Life.{Done, start, end}
+use Rattle.broker.specs.Done.{Done}
+use Rattle.broker.specs.Life.{start, end}
 use Rattle.broker.specs.Messages.{send, take, look, unreadBetween}
 use Rattle.broker.specs.Migrate.{move, heed, drain, land}
 use Rattle.broker.specs.Record.{decode}

@@ -13,7 +13,7 @@ pub enum Connection {
 // none; unheeded, the peer has not closed its side yet; or marked, the end marker is on the channel.
 pub enum Backlog {
     Clear,
-    Open,
+    Unheeded,
     Marked,
 }
 
@@ -60,7 +60,7 @@ impl Backlog {
     {
         match self {
             Backlog::Clear => true,
-            Backlog::Open => false,
+            Backlog::Unheeded => false,
             Backlog::Marked => false,
         }
     }
@@ -70,7 +70,7 @@ impl Backlog {
     {
         match self {
             Backlog::Clear => false,
-            Backlog::Open => true,
+            Backlog::Unheeded => true,
             Backlog::Marked => false,
         }
     }

@@ -7,7 +7,7 @@ use Prim.Native.Nat.{ℕ}
 use Rattle.transit.specs.Mail.{Mail, unreadIn}
 use Rattle.transit.specs.Unread.{Unread}
 use Rattle.broker.specs.Checks.{refusal}
-use Rattle.broker.specs.Life.{Done, done}
+use Rattle.broker.specs.Done.{Done, done}
 use Rattle.broker.specs.Sound.{sound}
 use Rattle.broker.specs.State.{State, withUnread}
 use Rattle.broker.specs.declared.answer.Values.{Values}

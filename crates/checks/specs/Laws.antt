@@ -1,5 +1,4 @@
 -- Laws of the definitions that the contracts cite.
-pub mod Counts
 pub mod Desk
 pub mod Look
 pub mod Settled

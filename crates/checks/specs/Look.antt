@@ -4,9 +4,9 @@ use Rattle.transit.specs.declared.Found.{Found}
 use Rattle.transit.specs.declared.Found.the-variants.{First, Nothing}
 use Rattle.transit.specs.declared.Rank.{Rank}
 use Rattle.transit.specs.declared.Selection.the-variants.{To}
-use Rattle.broker.specs.Life.{Done}
+use Rattle.broker.specs.Done.{Done}
 use Rattle.broker.specs.Messages.{look}
-use Rattle.broker.specs.Ranks.{rank}
+use Rattle.transit.specs.Message.{rank}
 use Rattle.broker.specs.State.{State}
 use Rattle.broker.specs.declared.record.Record.{Record}
 use Rattle.broker.specs.declared.record.Record.the-variants.{Start, Call, Route, Send, Take, Move, Heed, Drain, Land, Part, End, Look}

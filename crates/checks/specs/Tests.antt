@@ -2,10 +2,9 @@
 -- Paper 01, "Where each step is checked". Assumes nothing.
 use mathlib.Core.Bool.{not, _&&_}
 use mathlib.Core.List.{List, [], _∷_}
-use Rattle.transit.specs.Message.{sameRank}
+use Rattle.transit.specs.Message.{sameRank, isRank}
 use Rattle.transit.specs.declared.Rank.{Rank}
 use Rattle.broker.specs.Names.{isStarted, isMigrating, isEnded}
-use Rattle.broker.specs.Ranks.{isRank}
 use Rattle.broker.specs.declared.answer.Refusal.the-variants.{RankRange, SameRank, NotStarted, HasEnded, IsMigrating}
 use Rattle.broker.specs.declared.process.Status.{Status}
 use Rattle.checks.specs.Verdict.{Test, test}

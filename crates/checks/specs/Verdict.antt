@@ -4,12 +4,12 @@ use mathlib.Core.List.{List, [], _∷_}
 use mathlib.Core.Option.{Option, none, some}
 use Rattle.broker.specs.declared.answer.Refusal.{Refusal}
 use Rattle.checks.specs.declared.verdict.Verdict.{Verdict}
-use Rattle.checks.specs.declared.verdict.Verdict.the-variants.{Passed, Refused}
+use Rattle.checks.specs.declared.verdict.Verdict.the-variants.{Passed, Failed}
 
 -- the refusal of a verdict, if it is one
 abbrev pub verdictOf : Verdict → Option Refusal
 verdictOf Passed = none
-verdictOf (Refused n) = some n
+verdictOf (Failed n) = some n
 
 -- no check failed
 abbrev pub passed : Option Refusal

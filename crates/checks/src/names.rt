@@ -2,9 +2,8 @@
 ghost use mathlib.Core.Path.{_≡_};
 ghost use mathlib.Core.Bool.{_&&_};
 ghost use lib.Dec.{ltb};
-ghost use Rattle.transit.specs.Message.{sameRank};
+ghost use Rattle.transit.specs.Message.{sameRank, isRank};
 ghost use Rattle.broker.specs.Names.{hosts};
-ghost use Rattle.broker.specs.Ranks.{isRank};
 use broker::state::Broker;
 use transit::Rank;
 

@@ -11,7 +11,7 @@ use transit::Rank;
 
 pub enum Verdict {
     Passed,
-    Refused(Refusal),
+    Failed(Refusal),
 }
 
 impl Verdict {
@@ -26,10 +26,10 @@ impl Verdict {
         ensures { λ r. ⌜ verdictOf r ≡ orElse (verdictOf self) fails refusal ⌝ }
     {
         match self {
-            Verdict::Refused(earlier) => Verdict::Refused(earlier),
+            Verdict::Failed(earlier) => Verdict::Failed(earlier),
             Verdict::Passed => {
                 if fails {
-                    Verdict::Refused(refusal)
+                    Verdict::Failed(refusal)
                 } else {
                     Verdict::Passed
                 }

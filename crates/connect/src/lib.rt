@@ -176,8 +176,8 @@ pub fn part(a: Rank, b: Rank, slots: &mut Slots, roster: &mut Roster) -> Values
     ensures { λ v. ⌜ ((contents : List ℕ) → Mail (now (slots .entry)) contents → DeskDoes (part a b) (now (slots .entry)) contents
         (now (roster .entry)) v (now (slots .exit)) contents (now (roster .exit))) ⌝ }
 {
-    let to_first = relabel_between(b, a, Place::Channel, Place::List, slots);
-    let to_second = relabel_between(a, b, Place::Channel, Place::List, slots);
+    let to_first = relabel_between(b, a, Place::Channel, Place::EndList, slots);
+    let to_second = relabel_between(a, b, Place::Channel, Place::EndList, slots);
     connect_both(a, b, Connection::Closed, roster);
     Values(to_first as u32, to_second as u32, 0)
 }

@@ -6,7 +6,7 @@ use Prim.Native.Nat.{ℕ}
 use lib.Dec.{eqb, leb, ltb}
 use Rattle.transit.specs.declared.Rank.{Rank}
 use Rattle.broker.specs.Names.{hosts, numbers, isStarted, endpoint, isOpenRequest}
-use Rattle.broker.specs.Ranks.{isRank}
+use Rattle.transit.specs.Message.{isRank}
 use Rattle.broker.specs.declared.answer.Refusal.the-variants.{RankRange, HostRange, NotStarted, RequestOpen, SameHost, NumbersSpent}
 use Rattle.broker.specs.declared.process.Request.{Request}
 use Rattle.broker.specs.declared.process.Status.{Status}

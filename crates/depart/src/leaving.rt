@@ -33,7 +33,7 @@ fn leave(r: Rank, p: Rank, roster: &mut Roster)
         Connection::Open => {
             let own = Link {
                 connection: Connection::Closed,
-                backlog: Backlog::Open,
+                backlog: Backlog::Unheeded,
             };
             set_link(r, p, own, roster);
             connect(p, r, Connection::Closing, roster);
@@ -68,6 +68,6 @@ pub fn leave_behind(r: Rank, slots: &mut Slots)
     ensures { λ _. ⌜ ((contents : List ℕ) → Mail (now (slots .entry)) contents → LeftBehind r (now (slots .entry)) contents
         (now (slots .exit))) ⌝ }
 {
-    let listed = relabel_to(r, Place::List, Place::SourceList, slots);
+    let listed = relabel_to(r, Place::EndList, Place::SourceList, slots);
     let on_channel = relabel_to(r, Place::Channel, Place::SourceChannel, slots);
 }

@@ -4,7 +4,7 @@ ghost use mathlib.Core.List.{List};
 ghost use mathlib.Core.Path.{_≡_};
 ghost use lib.ListN.{length};
 ghost use Prim.Native.Nat.{ℕ, _<_};
-ghost use Rattle.transit.specs.Lists.{tally};
+ghost use Rattle.base.specs.Lists.{tally};
 ghost use Rattle.transit.specs.Mail.{Mail, messagesIn};
 ghost use Rattle.transit.specs.Message.{between, to};
 ghost use Rattle.transit.specs.Unread.{limit};

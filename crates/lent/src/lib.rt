@@ -8,12 +8,12 @@ use steps::Reply;
 use steps::step;
 
 // A step of a lent state, sound or spoiled. A refusal leaves it as it stood.
-pub fn step_lent(b: &mut Broker, log: &[u8], at: usize) -> Reply
-    ensures { λ r. ⌜ Stepped (view (now (b .entry))) (now (log .entry)) at (replied r (view (now (b .exit)))) ⌝ }
-    ensures refused_unchanged { λ r. ⌜ RefusalKeeps (r .answer) (now (b .entry)) (now (b .exit)) ⌝ }
+pub fn step_lent(broker: &mut Broker, log: &[u8], at: usize) -> Reply
+    ensures { λ r. ⌜ Stepped (view (now (broker .entry))) (now (log .entry)) at (replied r (view (now (broker .exit)))) ⌝ }
+    ensures refused_unchanged { λ r. ⌜ RefusalKeeps (r .answer) (now (broker .entry)) (now (broker .exit)) ⌝ }
 {
-    let o = step(*b, log, at);
-    *b = o.broker;
+    let o = step(*broker, log, at);
+    *broker = o.broker;
     Reply {
         answer: o.answer,
         next: o.next,

@@ -7,9 +7,16 @@ use lib.Dec.{leb, ltb}
 use Rattle.transit.specs.declared.Found.{Found}
 use Rattle.transit.specs.declared.Rank.{Rank}
 use Rattle.broker.specs.Names.{hosts, numbers, isStarted, isOpenRequest}
-use Rattle.broker.specs.Ranks.{isRank}
-use Rattle.broker.specs.declared.answer.Refusal.the-variants.{RankRange, HostRange, AlreadyStarted, NumbersSpent}
-use Rattle.broker.specs.declared.answer.Refusal.the-variants.{Connected, RequestOpen, UnreadLeft}
+use Rattle.transit.specs.Message.{isRank}
+use Rattle.broker.specs.declared.answer.Refusal.the-variants.{
+  RankRange,
+  HostRange,
+  AlreadyStarted,
+  NumbersSpent,
+  Connected,
+  RequestOpen,
+  UnreadLeft,
+}
 use Rattle.broker.specs.declared.process.Request.{Request}
 use Rattle.broker.specs.declared.process.Status.{Status}
 use Rattle.checks.specs.Tests.{oneTests, runningTests}

@@ -4,10 +4,10 @@ use mathlib.Core.List.{List, [], _∷_, _++_}
 use Prim.Native.Nat.{ℕ}
 use Rattle.transit.specs.declared.Message.{Message}
 use Rattle.transit.specs.declared.Place.{Place}
-use Rattle.transit.specs.declared.Place.the-variants.{SourceList, SourceChannel, List as EndList, Channel}
+use Rattle.transit.specs.declared.Place.the-variants.{SourceList, SourceChannel, EndList, Channel}
 use Rattle.page.specs.Ascii.{asciiLines}
 use Rattle.page.specs.Text.{decimal}
-use Rattle.broker.specs.Ranks.{rank}
+use Rattle.transit.specs.Message.{rank}
 use Rattle.broker.specs.declared.answer.Answer.the-variants.{Accepted, Refused}
 use Rattle.broker.specs.declared.answer.Refusal.the-variants.{UnknownKind}
 use Rattle.lines.specs.Lines.{recordLine, pairLine, pairLines}

@@ -3,15 +3,14 @@ use mathlib.Core.Bool.{cond}
 use mathlib.Core.List.{List, [], _∷_, _++_, map}
 use Prim.Native.Nat.{ℕ, zero, suc}
 use lib.Dec.{eqb}
-use Rattle.transit.specs.Lists.{tally}
-use Rattle.transit.specs.Message.{between, picks}
+use Rattle.base.specs.Lists.{tally}
+use Rattle.transit.specs.Message.{between, picks, ranks, rank}
 use Rattle.transit.specs.declared.Message.{Message}
 use Rattle.transit.specs.declared.Place.{Place}
-use Rattle.transit.specs.declared.Place.the-variants.{SourceList, SourceChannel, List as EndList, Channel}
+use Rattle.transit.specs.declared.Place.the-variants.{SourceList, SourceChannel, EndList, Channel}
 use Rattle.transit.specs.declared.Selection.the-variants.{BetweenAt}
 use Rattle.page.specs.Text.{decimal, hex, newline, numbers, space}
 use Rattle.broker.specs.Answer.{number, values}
-use Rattle.broker.specs.Ranks.{ranks, rank}
 use Rattle.broker.specs.declared.answer.Answer.{Answer}
 
 -- "per record: position, kind (two hexadecimal digits, upper case), number (0 when accepted), v1, v2, v3, decimal"

@@ -64,7 +64,7 @@ pub fn heed(b: Rank, r: Rank, slots: &mut Slots, roster: &mut Roster) -> Values
     ensures { λ v. ⌜ ((contents : List ℕ) → Mail (now (slots .entry)) contents → DeskDoes (heed b r) (now (slots .entry)) contents
         (now (roster .entry)) v (now (slots .exit)) contents (now (roster .exit))) ⌝ }
 {
-    let moved = relabel_between(r, b, Place::Channel, Place::List, slots);
+    let moved = relabel_between(r, b, Place::Channel, Place::EndList, slots);
     connect(b, r, Connection::Closed, roster);
     awaiting(r, b, Backlog::Marked, roster);
     Values(moved as u32, 0, 0)
@@ -163,8 +163,8 @@ pub fn land(r: Rank, slots: &mut Slots, roster: &mut Roster) -> Values
 {
     let standing = standing_of(r, roster);
     let target = standing.endpoint();
-    let moved = relabel_to(r, Place::SourceList, Place::List, slots);
+    let moved = relabel_to(r, Place::SourceList, Place::EndList, slots);
     set_standing(r, Status::Running(target), roster);
-    let listed = count_to(r, Place::List, slots);
+    let listed = count_to(r, Place::EndList, slots);
     Values(listed as u32, 0, 0)
 }

@@ -5,7 +5,7 @@ use mathlib.Core.Bool.{Bool, true, false, not, cond, _&&_, _||_}
 use mathlib.Core.List.{List, [], _∷_, _++_, map}
 use mathlib.Core.Option.{Option, none, some}
 use Prim.Native.Nat.{ℕ, _<_}
-use Rattle.transit.specs.Lists.{select, every}
+use Rattle.base.specs.Lists.{select, every}
 use Rattle.transit.specs.Message.{sameRank, placeOrder}
 use Rattle.transit.specs.declared.Message.{Message}
 use Rattle.transit.specs.declared.Rank.{Rank}

@@ -4,10 +4,11 @@ use mathlib.Core.Path.{_≡_, refl, ap}
 use mathlib.Core.Bool.{true, false, not}
 use mathlib.Core.List.{List, [], _∷_, map}
 use lib.ListN.{getD, replicate}
-use Rattle.transit.specs.declared.Place.the-variants.{SourceChannel, List as EndList}
+use Rattle.transit.specs.declared.Place.the-variants.{SourceChannel, EndList}
 use Rattle.broker.specs.Kind
 use Rattle.broker.specs.Names.{vmid, isMigrating}
-use Rattle.broker.specs.Ranks.{rank, everyRank}
+use Rattle.transit.specs.Message.{rank}
+use Rattle.broker.specs.Ranks.{everyRank}
 use Rattle.broker.specs.State.{idle, fresh, status}
 use Rattle.broker.specs.declared.process.Status.the-variants.{Running, Migrating}
 use Rattle.broker.specs.declared.record.Record.the-variants.{Start, Call, Route, Send, Take, Move, Drain, Land, Part}

@@ -5,9 +5,9 @@ use mathlib.Core.Bool.{true, false, _&&_}
 use mathlib.Core.List.{List, [], _∷_, _++_, map-append, append-nil, append-assoc}
 use mathlib.Core.Option.{none}
 use Prim.Native.Nat.{ℕ}
-use Rattle.transit.specs.Laws.Lists.{select-append, without-other}
+use Rattle.base.specs.Laws.Lists.{select-append, without-other}
 use Rattle.transit.specs.Laws.Pairs.{other-pair}
-use Rattle.transit.specs.Laws.Tests.{by-test}
+use Rattle.base.specs.Laws.Tests.{by-test}
 use Rattle.transit.specs.Message.{sameRank, between}
 use Rattle.transit.specs.declared.Rank.{Rank}
 use Rattle.broker.specs.Checks.{refusal}

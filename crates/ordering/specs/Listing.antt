@@ -4,10 +4,10 @@ use mathlib.Core.Path.{_≡_, refl, ap}
 use mathlib.Core.List.{List, [], _∷_, map}
 use Prim.Native.Nat.{ℕ}
 use lib.ListN.{replicate}
-use Rattle.transit.specs.declared.Place.the-variants.{List as EndList, Channel}
+use Rattle.transit.specs.declared.Place.the-variants.{EndList, Channel}
 use Rattle.broker.specs.Kind
 use Rattle.broker.specs.Names.{vmid}
-use Rattle.broker.specs.Ranks.{rank}
+use Rattle.transit.specs.Message.{rank}
 use Rattle.broker.specs.State.{idle}
 use Rattle.broker.specs.declared.process.Status.the-variants.{Running}
 use Rattle.broker.specs.declared.record.Record.the-variants.{Start, Call, Route, Send, Take, Move, Heed, Drain, Land}

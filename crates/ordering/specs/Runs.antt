@@ -5,12 +5,11 @@ use mathlib.Core.Bool.{true}
 use mathlib.Core.List.{List, [], _∷_, _++_}
 use mathlib.Core.Option.{none}
 use Prim.Native.Nat.{ℕ}
-use Rattle.transit.specs.Laws.Tests.{by-test}
+use Rattle.base.specs.Laws.Tests.{by-test, true-of}
 use Rattle.transit.specs.declared.Rank.{Rank}
 use Rattle.broker.specs.Checks.{refusal}
 use Rattle.broker.specs.Laws.Edges.{fresh-is-sound}
 use Rattle.broker.specs.Laws.Kept.{sound-kept}
-use Rattle.broker.specs.Laws.Logic.{true-of}
 use Rattle.broker.specs.Laws.Step.{Course, turned-away, carried-out, course, pastRecord, step-accepted}
 use Rattle.broker.specs.Record.{decode}
 use Rattle.broker.specs.Sound.{sound}

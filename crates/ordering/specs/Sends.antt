@@ -5,7 +5,7 @@ use mathlib.Core.Bool.{true, false}
 use mathlib.Core.List.{List, _∷_}
 use mathlib.Core.Option.{none}
 use Prim.Native.Nat.{ℕ}
-use Rattle.transit.specs.Laws.Tests.{by-test}
+use Rattle.base.specs.Laws.Tests.{by-test}
 use Rattle.transit.specs.declared.Rank.{Rank}
 use Rattle.broker.specs.Checks.{refusal}
 use Rattle.broker.specs.Kind
@@ -17,7 +17,7 @@ use Rattle.broker.specs.Laws.CoreStep.{core-step}
 use Rattle.broker.specs.Laws.Kept.{sound-kept}
 use Rattle.broker.specs.Laws.Quiet.{Calling, Joined, Quiet, sameVmid-self, call-calm, route-corrects, route-joins, send-calm, part-calm}
 use Rattle.broker.specs.Names.{sameVmid, endpoint, isEnded}
-use Rattle.broker.specs.Ranks.{rank}
+use Rattle.transit.specs.Message.{rank}
 use Rattle.broker.specs.Record.{decode}
 use Rattle.broker.specs.Sound.{sound}
 use Rattle.broker.specs.State.{State, status, location}

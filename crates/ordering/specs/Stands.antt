@@ -16,7 +16,7 @@ use Rattle.broker.specs.Laws.CoreStep.{core-step, take-value}
 use Rattle.broker.specs.Laws.Kept.{sound-kept}
 use Rattle.broker.specs.Laws.Quiet.{AllQuiet, Moving, Quiet, start-calm, take-calm, end-calm, move-calm, land-calm}
 use Rattle.broker.specs.Laws.State.{sameRank-self}
-use Rattle.broker.specs.Ranks.{rank}
+use Rattle.transit.specs.Message.{rank}
 use Rattle.broker.specs.Record.{decode}
 use Rattle.broker.specs.Sound.{sound}
 use Rattle.broker.specs.State.{State}

@@ -6,15 +6,14 @@ use mathlib.Core.List.{List, [], _∷_, _++_, map}
 use mathlib.Core.Option.{none}
 use Prim.Native.Nat.{ℕ}
 use lib.ListN.{getD}
-use Rattle.transit.specs.Laws.Lists.{select-select}
-use Rattle.transit.specs.Lists.{select, every}
-use Rattle.transit.specs.Message.{sameRank, placeOrder}
+use Rattle.base.specs.Laws.Lists.{select-select}
+use Rattle.base.specs.Lists.{select, every}
+use Rattle.transit.specs.Message.{sameRank, placeOrder, rank}
 use Rattle.transit.specs.declared.Message.{Message}
 use Rattle.transit.specs.declared.Rank.{Rank}
 use Rattle.transit.specs.declared.Selection.the-variants.{Between}
 use Rattle.broker.specs.Checks.{is}
 use Rattle.broker.specs.Kind
-use Rattle.broker.specs.Ranks.{rank}
 use Rattle.broker.specs.Record.{firstRank, secondRank}
 use Rattle.broker.specs.State.{idle, fresh, status, messages}
 use Rattle.broker.specs.declared.process.Process.{Process}
@@ -22,8 +21,20 @@ use Rattle.broker.specs.declared.process.Request.the-variants.{Absent}
 use Rattle.broker.specs.declared.process.Status.{Status}
 use Rattle.broker.specs.declared.record.Record.{Record}
 use Rattle.ordering.specs.Account.{Account, account}
-use Rattle.ordering.specs.Claim.{Reading, Entry, SecondList, after, accepted, everyAccepted, records, fiveKinds, unbroken}
-use Rattle.ordering.specs.Claim.{sent, taken, unread}
+use Rattle.ordering.specs.Claim.{
+  Reading,
+  Entry,
+  SecondList,
+  after,
+  accepted,
+  everyAccepted,
+  records,
+  fiveKinds,
+  unbroken,
+  sent,
+  taken,
+  unread,
+}
 
 -- what a list comes to: its accepted steps, and the processes and the unread messages in the state that it leaves
 pub record Result : Type 0 where

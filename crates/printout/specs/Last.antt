@@ -6,7 +6,7 @@ use Rattle.transit.specs.Mail.{Mail, messagesIn}
 use Rattle.transit.specs.declared.Message.{Message}
 use Rattle.page.specs.Put.{Put}
 use Rattle.lines.specs.Lines.{recordRoom, pairRoom, endRoom}
-use Rattle.broker.specs.Ranks.{ranks}
+use Rattle.transit.specs.Message.{ranks}
 
 -- a text is put on a page, and it is what is to be said of the messages that the slots hold, with whatever contents they hold them
 pub record PutOf (most : ℕ) (page : List ℕ) (used : ℕ) (slots : List ℕ) (said : List Message → List ℕ) (after : List ℕ) (end : ℕ)

@@ -7,7 +7,7 @@ use lib.Dec.{leb, ltb}
 use lib.ListN.{length, getD}
 use Rattle.transit.specs.declared.Rank.{Rank}
 use Rattle.broker.specs.Answer.{number}
-use Rattle.broker.specs.Ranks.{rank}
+use Rattle.transit.specs.Message.{rank}
 use Rattle.broker.specs.Record.{decode}
 use Rattle.broker.specs.State.{State}
 use Rattle.broker.specs.Step.{Outcome, step}

@@ -2,7 +2,7 @@
 ghost use mathlib.Core.List.{_++_};
 ghost use Prim.Native.Nat.{_+_, _<_, _≤_};
 ghost use lib.ListN.{length};
-ghost use Rattle.broker.specs.Ranks.{ranks};
+ghost use Rattle.transit.specs.Message.{ranks};
 ghost use Rattle.lines.specs.Lines.{linesOfPair, linesOfSender, pairLines, pairRoom, endLine};
 ghost use Rattle.printout.specs.Last.{PutOf, senderRoom, lastRoom};
 use broker::state::Broker;
@@ -27,7 +27,7 @@ fn lines_of_pair(page: &mut [u8], used: usize, a: u8, b: u8, slots: &Slots) -> u
     }
     let first = count_at(from, to, Place::SourceList, slots);
     let second = count_at(from, to, Place::SourceChannel, slots);
-    let third = count_at(from, to, Place::List, slots);
+    let third = count_at(from, to, Place::EndList, slots);
     let fourth = count_at(from, to, Place::Channel, slots);
     pair_line(
         page,

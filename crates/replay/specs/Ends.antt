@@ -5,7 +5,7 @@ use Prim.Native.Nat.{ℕ, _+_, _-_, _≤_, _<_}
 use native.Mathlib.Omega.{arith}
 use borrow.Author.Tests.{eqb-false}
 use lib.Dec.{eqb}
-use Rattle.transit.specs.Laws.Tests.{by-test}
+use Rattle.base.specs.Laws.Tests.{by-test}
 use Rattle.printout.specs.Turn.{bufferRoom, farthest}
 
 -- no turn begins further on in the input

@@ -1,9 +1,7 @@
 -- The laws that the proofs of this crate cite.
 pub mod Columns
-pub mod Counts
 pub mod Loaded
 pub mod Numbers
 pub mod Reads
 pub mod Stores
-pub mod Tabulate
 pub mod Unloaded

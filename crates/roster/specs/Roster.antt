@@ -11,11 +11,6 @@ use Rattle.broker.specs.declared.process.Process.{Process}
 use Rattle.broker.specs.declared.process.Vmid.{Vmid}
 use Rattle.roster.specs.Numbers.{vmidOf, statusOf, requestOf, linkOf, drawnOf}
 
--- f 0, f 1, .. up to f (n - 1)
-unfoldable pub tabulate : {A : Type 0} → ℕ → (ℕ → A) → List A
-tabulate zero f = []
-tabulate (suc n) f = f 0 ∷ tabulate n (λ k. f (suc k))
-
 -- a rank's process: its standing and its call
 abbrev pub processIn : List ℕ → ℕ → Process
 processIn l k = record { status = statusOf (getD l k 0); request = requestOf (getD l (16 + k) 0) }

@@ -1,9 +1,8 @@
 // All links of a rank: how many awaits it has, and whether it has no line. Paper 01, "Names and places".
 ghost use mathlib.Core.Path.{_≡_};
-ghost use Rattle.broker.specs.Migrate.{awaitsOf};
+ghost use Rattle.broker.specs.State.{awaitsOf, linkAt};
 ghost use Rattle.broker.specs.Names.{isClosed};
 ghost use Rattle.broker.specs.Ranks.{everyRank};
-ghost use Rattle.broker.specs.State.{linkAt};
 ghost use Rattle.roster.specs.Roster.{ranksOf, Whole};
 use crate::Roster;
 use crate::read::link_between;

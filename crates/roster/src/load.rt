@@ -135,14 +135,14 @@ fn load_drawn(drawn: [u16; 8], roster: &mut Roster)
 }
 
 // All of a state by value but its messages.
-pub fn load(b: Broker, roster: &mut Roster)
+pub fn load(broker: Broker, roster: &mut Roster)
     requires { ⌜ Whole (now roster) ⌝ }
-    ensures { λ _. ⌜ Holds (now (roster .exit)) (withUnread nothing (view b)) ⌝ }
+    ensures { λ _. ⌜ Holds (now (roster .exit)) (withUnread nothing (view broker)) ⌝ }
 {
-    let processes = b.processes;
-    let locations = b.locations;
-    let links = b.links;
-    let drawn = b.drawn;
+    let processes = broker.processes;
+    let locations = broker.locations;
+    let links = broker.links;
+    let drawn = broker.drawn;
     load_processes(processes, roster);
     load_locations(locations, roster);
     load_links(links, roster);
@@ -248,15 +248,15 @@ fn drawn_in(roster: &Roster) -> [u16; 8]
 }
 
 // The state by value with all of it but its messages as the roster has it.
-pub fn unload(b: Broker, roster: &Roster) -> Broker
+pub fn unload(broker: Broker, roster: &Roster) -> Broker
     requires { ⌜ Whole (now roster) ⌝ }
-    ensures { λ out. ⌜ view out ≡ withUnread (view b .unread) (ranksOf (now (roster .entry))) ⌝ }
+    ensures { λ out. ⌜ view out ≡ withUnread (view broker .unread) (ranksOf (now (roster .entry))) ⌝ }
 {
     let processes = processes_in(roster);
     let locations = locations_in(roster);
     let links = links_in(roster);
     let drawn = drawn_in(roster);
-    let mut next = b;
+    let mut next = broker;
     next.processes = processes;
     next.locations = locations;
     next.links = links;

@@ -119,7 +119,7 @@ fn decode_await(n: u64) -> Backlog
         return Backlog::Clear;
     }
     if n == 1 {
-        return Backlog::Open;
+        return Backlog::Unheeded;
     }
     Backlog::Marked
 }
@@ -131,7 +131,7 @@ fn encode_await(backlog: Backlog) -> u64
 {
     match backlog {
         Backlog::Clear => 0,
-        Backlog::Open => 1,
+        Backlog::Unheeded => 1,
         Backlog::Marked => 2,
     }
 }

@@ -1,10 +1,8 @@
 // What is known of a rank, changed: one standing, call, table entry, link or count of numbers, and nothing else.
 // Paper 01, "Names and places".
 ghost use lib.ListN.{set};
-ghost use Rattle.broker.specs.Connect.{connect};
+ghost use Rattle.broker.specs.State.{connect, await, cell, setLink, withStatus, withRequest, withLocations, withLinks, withDrawn};
 ghost use Rattle.broker.specs.Life.{announced};
-ghost use Rattle.broker.specs.Migrate.{await};
-ghost use Rattle.broker.specs.State.{cell, setLink, withStatus, withRequest, withLocations, withLinks, withDrawn};
 ghost use Rattle.roster.specs.Roster.{ranksOf, Holds, Whole};
 use crate::DRAWN;
 use crate::LINKS;

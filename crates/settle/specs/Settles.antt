@@ -3,7 +3,7 @@ use mathlib.Core.Bool.{true}
 use mathlib.Core.List.{List}
 use mathlib.Core.Path.{_≡_}
 use Prim.Native.Nat.{ℕ}
-use Rattle.broker.specs.Life.{Done}
+use Rattle.broker.specs.Done.{Done}
 use Rattle.broker.specs.Sound.{sound}
 use Rattle.broker.specs.State.{State}
 use Rattle.broker.specs.Step.{Settlement, apply, settle}

@@ -25,7 +25,7 @@ pub fn settle(
 {
     let verdict = judge(read, slots, contents, roster);
     match verdict {
-        Verdict::Refused(n) => Answer::Refused(n),
+        Verdict::Failed(n) => Answer::Refused(n),
         Verdict::Passed => {
             let values = apply(read, slots, contents, roster);
             Answer::Accepted(values.0, values.1, values.2)

@@ -11,7 +11,7 @@ use mir.Val.{Val}
 use denote.Laws.{Is}
 use denote.Struct
 use Rattle.transit.proofs.Transit.{the-type as the-transit}
-use Rattle.transit.specs.Unread.{view as viewTransit, limit}
+use Rattle.transit.specs.Unread.{unreadOf, limit}
 use Rattle.transit.specs.declared.Transit.{Transit}
 use Rattle.broker.proofs.state.Broker.{the-type as the-broker}
 use Rattle.broker.specs.State.{view}
@@ -19,14 +19,14 @@ use Rattle.broker.specs.declared.state.Broker.{Broker}
 use Rattle.soundness.specs.Laws.Sound.{Typed}
 
 -- Within the limit as many messages are held as the count says.
-pub held-count : (t : Transit) (vs : List Val) → Is (Struct.Declared.row the-transit) t vs → t .count ≤ limit → length (viewTransit t .messages) ≡ t .count
+pub held-count : (t : Transit) (vs : List Val) → Is (Struct.Declared.row the-transit) t vs → t .count ≤ limit → length (unreadOf t .messages) ≡ t .count
 held-count t vs good few =
     let slots : length (t .messages) ≡ 1024 = rw length-map at (good .1 .1 .0 .1 .0 .1) in
     rw (length-take, slots) (omega arith)
 
 -- The arrays have their lengths, and each number drawn fits sixteen bits.
-pub typed : (b : Broker) (vs : List Val) → Is (Struct.Declared.row the-broker) b vs → Typed (view b)
-typed b vs good =
+pub typed : (broker : Broker) (vs : List Val) → Is (Struct.Declared.row the-broker) broker vs → Typed (view broker)
+typed broker vs good =
     let fields = good .1 .1 in
     let drawn = fields .1 .1 .1 .0 in
     record {
@@ -36,6 +36,6 @@ typed b vs good =
         links-long = rw length-map at (fields .1 .1 .0 .1 .0 .1);
         drawn-long = rw length-map at (drawn .1 .0 .1);
       };
-      numbered = λ h _. omega (arith, elem-fits-field w16 w16 (b .drawn) _ h (drawn .1 .1) tt);
-      held = held-count (b .transit) _ (fields .1 .1 .1 .1 .0);
+      numbered = λ h _. omega (arith, elem-fits-field w16 w16 (broker .drawn) _ h (drawn .1 .1) tt);
+      held = held-count (broker .transit) _ (fields .1 .1 .1 .1 .0);
     }

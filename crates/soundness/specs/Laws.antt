@@ -1,5 +1,4 @@
 -- The laws of the definitions, which the proofs of this crate cite.
-pub mod Logic
 pub mod Marks
 pub mod Messages
 pub mod Pairs

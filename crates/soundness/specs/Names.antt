@@ -5,7 +5,7 @@ use mathlib.Core.List.{List}
 use Prim.Native.Nat.{ℕ}
 use lib.Dec.{leb, ltb}
 use lib.ListN.{getD}
-use Rattle.transit.specs.Lists.{every}
+use Rattle.base.specs.Lists.{every}
 use Rattle.broker.specs.Names.{hosts, vmidsOf}
 use Rattle.broker.specs.declared.process.Status.{Status}
 use Rattle.broker.specs.declared.process.Vmid.{Vmid}

@@ -6,7 +6,8 @@ use Prim.Native.Nat.{ℕ}
 use lib.ListN.{getD}
 use Rattle.transit.specs.declared.Rank.{Rank}
 use Rattle.broker.specs.Names.{asksFor, isClosed, isClear}
-use Rattle.broker.specs.Ranks.{isRank, everyRank}
+use Rattle.transit.specs.Message.{isRank}
+use Rattle.broker.specs.Ranks.{everyRank}
 use Rattle.broker.specs.Sound.{ofCall}
 use Rattle.broker.specs.State.{idle, linkAt}
 use Rattle.broker.specs.declared.link.Link.{Link}

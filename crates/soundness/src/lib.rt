@@ -14,19 +14,19 @@ pub mod pairs;
 pub mod ranks;
 
 // Whether the state is sound. It asks nothing of the state: a spoiled one is told from a sound one.
-pub fn is_sound(b: Broker) -> bool
-    ensures { λ r. ⌜ r ≡ sound (view b) ⌝ }
+pub fn is_sound(broker: Broker) -> bool
+    ensures { λ r. ⌜ r ≡ sound (view broker) ⌝ }
 {
-    let drawn = b.drawn;
-    let processes = b.processes;
-    let links = b.links;
+    let drawn = broker.drawn;
+    let processes = broker.processes;
+    let links = broker.links;
     if !ranks_sound(drawn, processes, links) {
         return false;
     }
-    let locations = b.locations;
+    let locations = broker.locations;
     if !pairs_sound(drawn, processes, locations, links) {
         return false;
     }
-    let transit = b.transit;
+    let transit = broker.transit;
     messages_sound(processes, links, transit)
 }

@@ -1,6 +1,6 @@
 // The unread messages in order of sending: each by its sender and its receiver, and each after the last of its pair.
 ghost use mathlib.Core.Path.{_≡_};
-ghost use Rattle.transit.specs.Unread.{view};
+ghost use Rattle.transit.specs.Unread.{unreadOf};
 ghost use Rattle.broker.specs.Laws.Sound.{isNamed};
 ghost use Rattle.soundness.specs.Messages.{placeFits, messageFits, messagesSound};
 use broker::link::Link;
@@ -46,7 +46,7 @@ fn message_fits(m: Message, sender: Process, receiver: Process, back: Link) -> b
 // Every message, up to the first that fails or is at a lower place than the last of its pair. A message at the place of that last one
 // is not tested again: whether it fits depends on its pair and its place alone.
 pub fn messages_sound(processes: [Process; 16], links: [Link; 256], t: Transit) -> bool
-    ensures { λ r. ⌜ r ≡ messagesSound processes links (view t) ⌝ }
+    ensures { λ r. ⌜ r ≡ messagesSound processes links (unreadOf t) ⌝ }
 {
     let count = t.count;
     if Transit::LIMIT < count {

@@ -1,7 +1,7 @@
 // Vmids: drawn on their hosts, and each of one process only.
 ghost use mathlib.Core.Path.{_≡_};
 ghost use mathlib.Core.Bool.{not};
-ghost use Rattle.transit.specs.Lists.{every};
+ghost use Rattle.base.specs.Lists.{every};
 ghost use Rattle.broker.specs.Names.{processesOf, sameVmid};
 ghost use Rattle.broker.specs.Sound.{distinct, noneShared};
 ghost use Rattle.soundness.specs.Names.{isDrawnOn, vmidsDrawn};

@@ -1,7 +1,15 @@
 // The pairs of ranks, row after row: what each rank holds towards each.
 ghost use mathlib.Core.Path.{_≡_};
-ghost use Rattle.soundness.specs.Pairs.{locationFits, vmidsApart, connectionFits, backlogFits, requestFits};
-ghost use Rattle.soundness.specs.Pairs.{holdsNothing, pairSound, pairsSound};
+ghost use Rattle.soundness.specs.Pairs.{
+  locationFits,
+  vmidsApart,
+  connectionFits,
+  backlogFits,
+  requestFits,
+  holdsNothing,
+  pairSound,
+  pairsSound,
+};
 use crate::names::are_distinct;
 use crate::names::is_drawn;
 use crate::names::share_none;

@@ -51,7 +51,7 @@ pub fn connections(b: Broker) {
         with_connection(b, 6, 1, Connection::Closing),
         1,
         6,
-        Backlog::Open,
+        Backlog::Unheeded,
     );
     tell(
         b"notice-faces-notice",
@@ -59,7 +59,7 @@ pub fn connections(b: Broker) {
             with_connection(noticed, 1, 6, Connection::Closing),
             6,
             1,
-            Backlog::Open,
+            Backlog::Unheeded,
         ),
     );
 }
@@ -80,7 +80,7 @@ pub fn awaits(b: Broker) {
     );
     tell(
         b"unheeded-without-notice",
-        with_backlog(b, 1, 3, Backlog::Open),
+        with_backlog(b, 1, 3, Backlog::Unheeded),
     );
     tell(
         b"notice-without-await",

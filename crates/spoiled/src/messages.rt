@@ -39,7 +39,7 @@ pub fn counts(b: Broker) {
 // place 1 only with an await, place 3 only with a line from receiver to sender. Within a pair, places never fall along the order of
 // sending."
 pub fn places(b: Broker) {
-    tell(b"unheeded-at-place-2", with_place(b, 6, Place::List));
+    tell(b"unheeded-at-place-2", with_place(b, 6, Place::EndList));
     tell(b"unheeded-at-place-3", with_place(b, 6, Place::Channel));
     tell(
         b"place-0-of-a-running-receiver",
@@ -55,5 +55,5 @@ pub fn places(b: Broker) {
     );
     tell(b"place-3-without-line", with_place(b, 4, Place::Channel));
     tell(b"place-falls-to-0", with_place(b, 6, Place::SourceList));
-    tell(b"place-falls-to-2", with_place(b, 8, Place::List));
+    tell(b"place-falls-to-2", with_place(b, 8, Place::EndList));
 }

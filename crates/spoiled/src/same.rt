@@ -62,7 +62,7 @@ fn connection_number(c: Connection) -> u8 {
 fn backlog_number(l: Backlog) -> u8 {
     match l {
         Backlog::Clear => 0,
-        Backlog::Open => 1,
+        Backlog::Unheeded => 1,
         Backlog::Marked => 2,
     }
 }

@@ -9,7 +9,7 @@ use borrow.Author.Tests.{lt-ltb, le-ltb, le-leb, lt-leb, eq-eqb, ne-eqb}
 use lib.Dec.{eqb}
 use lib.ListN.{getD, length}
 use Rattle.broker.specs.Kind
-use Rattle.broker.specs.Ranks.{rank}
+use Rattle.transit.specs.Message.{rank}
 use Rattle.broker.specs.Record.{recordOf, decode, valueOf}
 use Rattle.broker.specs.declared.record.Decoded.the-variants.{Whole, Unknown, Cut}
 use Rattle.broker.specs.declared.record.Record.{Record}

@@ -27,16 +27,16 @@ pub struct Reply {
 }
 
 // A step of any state, sound or spoiled. A refusal gives back the very state: its unused message slots too.
-pub fn step(b: Broker, log: &[u8], at: usize) -> Outcome
-    ensures { λ o. ⌜ Stepped (view b) (now (log .entry)) at (outcome o) ⌝ }
-    ensures refused_unchanged { λ o. ⌜ RefusalKeeps (o .answer) b (o .broker) ⌝ }
+pub fn step(broker: Broker, log: &[u8], at: usize) -> Outcome
+    ensures { λ o. ⌜ Stepped (view broker) (now (log .entry)) at (outcome o) ⌝ }
+    ensures refused_unchanged { λ o. ⌜ RefusalKeeps (o .answer) broker (o .broker) ⌝ }
 {
     let mut slots = [0u16; 6914];
     let mut contents = [0u32; 2048];
     let mut roster = [0u64; 552];
-    if !load(b, &mut slots, &mut contents, &mut roster) {
+    if !load(broker, &mut slots, &mut contents, &mut roster) {
         return Outcome {
-            broker: b,
+            broker: broker,
             answer: Answer::Refused(Refusal::Unsound),
             next: at,
         };
@@ -46,12 +46,12 @@ pub fn step(b: Broker, log: &[u8], at: usize) -> Outcome
     let next = reply.next;
     match answer {
         Answer::Refused(_) => Outcome {
-            broker: b,
+            broker: broker,
             answer: answer,
             next: next,
         },
         Answer::Accepted(_, _, _) => {
-            let after = unload(b, &slots, &contents, &roster);
+            let after = unload(broker, &slots, &contents, &roster);
             Outcome {
                 broker: after,
                 answer: answer,

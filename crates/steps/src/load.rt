@@ -23,29 +23,29 @@ pub fn open_fresh(slots: &mut Slots, contents: &mut Contents, roster: &mut Roste
 }
 
 // A state is tested, and where it is sound the arrays hold it.
-pub fn load(b: Broker, slots: &mut Slots, contents: &mut Contents, roster: &mut Roster) -> bool
+pub fn load(broker: Broker, slots: &mut Slots, contents: &mut Contents, roster: &mut Roster) -> bool
     requires { ⌜ length (now slots) ≡ 6914 ⌝ }
     requires { ⌜ length (now contents) ≡ 2048 ⌝ }
     requires { ⌜ Whole (now roster) ⌝ }
-    ensures { λ r. ⌜ Loads (view b) r (now (slots .exit)) (now (contents .exit)) (now (roster .exit)) ⌝ }
+    ensures { λ r. ⌜ Loads (view broker) r (now (slots .exit)) (now (contents .exit)) (now (roster .exit)) ⌝ }
 {
-    if !is_sound(b) {
+    if !is_sound(broker) {
         return false;
     }
-    let transit = b.transit;
+    let transit = broker.transit;
     transit::load::load(transit, slots, contents);
-    roster::load::load(b, roster);
+    roster::load::load(broker, roster);
     true
 }
 
-// The state that the arrays hold, in the room of `b`.
-pub fn unload(b: Broker, slots: &Slots, contents: &Contents, roster: &Roster) -> Broker
+// The state that the arrays hold, in the room of `broker`.
+pub fn unload(broker: Broker, slots: &Slots, contents: &Contents, roster: &Roster) -> Broker
     requires { ⌜ Desk (now slots) (now contents) (now roster) ⌝ }
     ensures { λ r. ⌜ view r ≡ deskOf (now (slots .entry)) (now (contents .entry)) (now (roster .entry)) ⌝ }
 {
-    let room = b.transit;
+    let room = broker.transit;
     let messages = transit::load::unload_into(room, slots, contents);
-    let mut next = roster::load::unload(b, roster);
+    let mut next = roster::load::unload(broker, roster);
     next.transit = messages;
     next
 }

@@ -58,32 +58,32 @@ fn told(answer: Answer) -> u64 {
 }
 
 // A step by lending: the state is lent to the step, and then handed back.
-fn step_by_lending(mut b: Broker, log: &[u8], at: usize) -> Outcome
-    ensures { λ o. ⌜ Stepped (view b) (now (log .entry)) at (outcome o) ⌝ }
+fn step_by_lending(mut broker: Broker, log: &[u8], at: usize) -> Outcome
+    ensures { λ o. ⌜ Stepped (view broker) (now (log .entry)) at (outcome o) ⌝ }
 {
-    let reply = step_lent(&mut b, log, at);
+    let reply = step_lent(&mut broker, log, at);
     Outcome {
-        broker: b,
+        broker: broker,
         answer: reply.answer,
         next: reply.next,
     }
 }
 
 // A step in the way that is asked for.
-fn step_by(call: u8, b: Broker, log: &[u8], at: usize) -> Outcome
-    ensures { λ o. ⌜ Stepped (view b) (now (log .entry)) at (outcome o) ⌝ }
+fn step_by(call: u8, broker: Broker, log: &[u8], at: usize) -> Outcome
+    ensures { λ o. ⌜ Stepped (view broker) (now (log .entry)) at (outcome o) ⌝ }
 {
     if call == LENT {
-        step_by_lending(b, log, at)
+        step_by_lending(broker, log, at)
     } else {
-        step(b, log, at)
+        step(broker, log, at)
     }
 }
 
 // Steps, each a look of rank 0, which leaves the state as it is.
-fn looks(call: u8, b: Broker, times: u32) -> u64 {
+fn looks(call: u8, start: Broker, times: u32) -> u64 {
     let look = b"\x0C\x00";
-    let mut broker = b;
+    let mut broker = start;
     let mut sum: u64 = 0;
     let mut turn: u32 = 0;
     while turn < times {
@@ -118,11 +118,11 @@ fn looks_in_place(
 }
 
 // Tests of soundness: how many found the state sound.
-fn tests(b: Broker, times: u32) -> u64 {
+fn tests(broker: Broker, times: u32) -> u64 {
     let mut sum: u64 = 0;
     let mut turn: u32 = 0;
     while turn < times {
-        if is_sound(b) {
+        if is_sound(broker) {
             sum = std::num::wrapping_add_u64(sum, 1);
         }
         turn += 1;

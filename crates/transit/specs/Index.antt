@@ -7,7 +7,7 @@ use Prim.Native.Nat.{ℕ, suc, _<_, _≤_}
 use lib.Dec.{eqb}
 use lib.ListN.{length, getD}
 use Rattle.transit.specs.Columns.{Columns}
-use Rattle.transit.specs.Lists.{tally}
+use Rattle.base.specs.Lists.{tally}
 
 -- j is the first slot of the pair at or after i, or 2,048 where there is none
 pub record Next (pairs : List ℕ) (p i j : ℕ) : Type 0 where

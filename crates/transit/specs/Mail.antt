@@ -6,7 +6,7 @@ use Prim.Native.Nat.{ℕ, _<_, _≤_}
 use lib.ListN.{length, getD}
 use Rattle.transit.specs.Columns.{columnsOf}
 use Rattle.transit.specs.Index.{Index}
-use Rattle.transit.specs.Lists.{select, tally, without}
+use Rattle.base.specs.Lists.{select, tally, without}
 use Rattle.transit.specs.Message.{between, picks}
 use Rattle.transit.specs.Slots.{messagesOf}
 use Rattle.transit.specs.Unread.{Unread, counted, limit, head, valueIn, eachTo, firstTo}

@@ -3,14 +3,28 @@
 use mathlib.Core.Bool.{Bool, _&&_}
 use mathlib.Core.List.{List, _++_}
 use Prim.Native.Nat.{ℕ}
-use lib.Dec.{eqb}
-use Rattle.transit.specs.Lists.{select}
+use lib.Dec.{eqb, ltb}
+use Rattle.base.specs.Lists.{select}
 use Rattle.transit.specs.declared.Message.{Message}
 use Rattle.transit.specs.declared.Place.{Place}
-use Rattle.transit.specs.declared.Place.the-variants.{SourceList, SourceChannel, List as EndList, Channel}
+use Rattle.transit.specs.declared.Place.the-variants.{SourceList, SourceChannel, EndList, Channel}
 use Rattle.transit.specs.declared.Rank.{Rank}
 use Rattle.transit.specs.declared.Selection.{Selection}
 use Rattle.transit.specs.declared.Selection.the-variants.{To, ToAt, Between, BetweenAt}
+
+-- "Ranks are 0 to 15."
+abbrev pub ranks : ℕ
+ranks = 16
+
+-- the ordered pairs of ranks
+abbrev pub cells : ℕ
+cells = 256
+
+abbrev pub rank : ℕ → Rank
+rank n = record { 0 = n }
+
+abbrev pub isRank : Rank → Bool
+isRank r = ltb (r .0) ranks
 
 -- "a place: 0 mover's list, 1 lane to the mover, 2 list of the current end, 3 lane to the current end"
 abbrev pub placeNumber : Place → ℕ

@@ -8,7 +8,7 @@ use lib.ListN.{getD}
 use Rattle.transit.specs.Columns.{Columns}
 use Rattle.transit.specs.declared.Message.{Message}
 use Rattle.transit.specs.declared.Place.{Place}
-use Rattle.transit.specs.declared.Place.the-variants.{SourceList, SourceChannel, List as EndList, Channel}
+use Rattle.transit.specs.declared.Place.the-variants.{SourceList, SourceChannel, EndList, Channel}
 use Rattle.transit.specs.declared.Rank.{Rank}
 
 -- what the live slots hold, in order: a slot whose number is not that of a pair is dead

@@ -5,7 +5,7 @@ use mathlib.Core.List.{List, [], _∷_, _++_, map}
 use Prim.Native.Nat.{ℕ, _+_}
 use lib.Dec.{ltb}
 use lib.ListN.{length, take}
-use Rattle.transit.specs.Lists.{select, without, changeFirst, changeEach}
+use Rattle.base.specs.Lists.{select, without, changeFirst, changeEach}
 use Rattle.transit.specs.Message.{picks, placeOrder, relabelled, at}
 use Rattle.transit.specs.declared.Found.{Found}
 use Rattle.transit.specs.declared.Found.the-variants.{First, Nothing}
@@ -20,8 +20,8 @@ pub record Unread : Type 0 where
   pub count : ℕ
 
 -- the slots past the count mean nothing
-abbrev pub view : Transit → Unread
-view t = record { messages = take (t .count) (t .messages); count = t .count }
+abbrev pub unreadOf : Transit → Unread
+unreadOf t = record { messages = take (t .count) (t .messages); count = t .count }
 
 -- "At most 1,024 are unread in the whole desk."
 abbrev pub limit : ℕ

@@ -61,7 +61,7 @@ fn place_of(n: u16) -> Place
         return Place::SourceChannel;
     }
     if n == 2 {
-        return Place::List;
+        return Place::EndList;
     }
     Place::Channel
 }

@@ -2,7 +2,7 @@
 // Paper 01: "The places of messages are kept by a lower part that knows no step kinds." This crate is that part.
 ghost use mathlib.Core.Path.{_≡_};
 ghost use Rattle.transit.specs.Message.{placeNumber};
-ghost use Rattle.transit.specs.Unread.{view, nothing};
+ghost use Rattle.transit.specs.Unread.{unreadOf, nothing};
 
 pub mod append;
 pub mod count;
@@ -25,7 +25,7 @@ pub enum Place {
     // 1, the lane to the mover: on a channel to the source process.
     SourceChannel,
     // 2, the list of the current end.
-    List,
+    EndList,
     // 3, the lane to the current end.
     Channel,
 }
@@ -73,7 +73,7 @@ impl Place {
         match self {
             Place::SourceList => 0,
             Place::SourceChannel => 1,
-            Place::List => 2,
+            Place::EndList => 2,
             Place::Channel => 3,
         }
     }
@@ -85,13 +85,13 @@ impl Transit {
 
     // Nothing sent yet.
     pub fn fresh() -> Self
-        ensures { λ r. ⌜ view r ≡ nothing ⌝ }
+        ensures { λ r. ⌜ unreadOf r ≡ nothing ⌝ }
     {
         let unused = Message {
             sender: Rank(0),
             receiver: Rank(0),
             value: 0,
-            place: Place::List,
+            place: Place::EndList,
         };
         Transit {
             messages: [unused; 1024],

@@ -4,10 +4,10 @@ ghost use mathlib.Core.List.{List, []};
 ghost use mathlib.Core.Path.{_≡_};
 ghost use Prim.Native.Nat.{ℕ, _≤_};
 ghost use lib.ListN.{length};
-ghost use Rattle.transit.specs.Lists.{every};
+ghost use Rattle.base.specs.Lists.{every};
 ghost use Rattle.transit.specs.Mail.{Mail, unreadIn, Loaded};
 ghost use Rattle.transit.specs.Slots.{ranked};
-ghost use Rattle.transit.specs.Unread.{view, limit};
+ghost use Rattle.transit.specs.Unread.{unreadOf, limit};
 use crate::Contents;
 use crate::Slots;
 use crate::Transit;
@@ -48,8 +48,8 @@ pub fn load(t: Transit, slots: &mut Slots, contents: &mut Contents)
     requires { ⌜ length (now slots) ≡ 6914 ⌝ }
     requires { ⌜ length (now contents) ≡ 2048 ⌝ }
     requires { ⌜ t .count ≤ limit ⌝ }
-    requires { ⌜ every ranked (view t .messages) ≡ true ⌝ }
-    ensures { λ _. ⌜ Loaded (view t .messages) (now (slots .exit)) (now (contents .exit)) ⌝ }
+    requires { ⌜ every ranked (unreadOf t .messages) ≡ true ⌝ }
+    ensures { λ _. ⌜ Loaded (unreadOf t .messages) (now (slots .exit)) (now (contents .exit)) ⌝ }
 {
     clear(slots);
     let end = t.count;
@@ -64,7 +64,7 @@ pub fn load(t: Transit, slots: &mut Slots, contents: &mut Contents)
 // The messages of the slots as a value, in the room of `t`.
 pub fn unload_into(t: Transit, slots: &Slots, contents: &Contents) -> Transit
     requires { ⌜ Mail (now slots) (now contents) ⌝ }
-    ensures { λ r. ⌜ view r ≡ unreadIn (now (slots .entry)) (now (contents .entry)) ⌝ }
+    ensures { λ r. ⌜ unreadOf r ≡ unreadIn (now (slots .entry)) (now (contents .entry)) ⌝ }
 {
     let mut value = t;
     let end = slots[TAIL] as usize;
@@ -86,7 +86,7 @@ pub fn unload_into(t: Transit, slots: &Slots, contents: &Contents) -> Transit
 // The messages of the slots as a value.
 pub fn unload(slots: &Slots, contents: &Contents) -> Transit
     requires { ⌜ Mail (now slots) (now contents) ⌝ }
-    ensures { λ r. ⌜ view r ≡ unreadIn (now (slots .entry)) (now (contents .entry)) ⌝ }
+    ensures { λ r. ⌜ unreadOf r ≡ unreadIn (now (slots .entry)) (now (contents .entry)) ⌝ }
 {
     unload_into(Transit::fresh(), slots, contents)
 }

@@ -1,6 +1,6 @@
 // A message taken: the first of its pair leaves.
 ghost use Prim.Native.Nat.{_<_};
-ghost use Rattle.transit.specs.Lists.{tally};
+ghost use Rattle.base.specs.Lists.{tally};
 ghost use Rattle.transit.specs.Mail.{Mail, messagesIn, Left};
 ghost use Rattle.transit.specs.Message.{between};
 use crate::Contents;

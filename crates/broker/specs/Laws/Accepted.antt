@@ -7,18 +7,16 @@ use Prim.Native.Nat.{ℕ, _<_}
 use native.Mathlib.Omega.{arith}
 use borrow.Author.Tests.{ltb-true, lt-ltb, leb-false, lt-leb, eqb-true, eq-eqb, eqb-false, ne-eqb, not-false, not-true}
 use lib.Dec.{eqb, leb, ltb}
-use Rattle.transit.specs.Laws.Tests.{both, both-left, both-right}
-use Rattle.transit.specs.Lists.{tally, every}
-use Rattle.transit.specs.Message.{sameRank, between, to, at}
+use Rattle.base.specs.Laws.Tests.{both, both-left, both-right, not-both, or-false-left}
+use Rattle.base.specs.Lists.{tally, every}
+use Rattle.transit.specs.Message.{sameRank, between, to, at, isRank}
 use Rattle.transit.specs.Unread.{limit}
 use Rattle.transit.specs.declared.Place.the-variants.{SourceChannel}
 use Rattle.transit.specs.declared.Rank.{Rank}
 use Rattle.broker.specs.Checks.{rankRange, hostRange, rankTwice, notStarted, alreadyStarted, hasEnded, firstMigrating, notMigrating, connected, requestOpen, noRequest, notConnected, peerMigrating, noNotice, sameHost, backlogLeft, noBacklog, nothingToDrain, nothingUnread, unreadLeft, full, numbersSpent}
 use Rattle.broker.specs.Laws.Checks.{Passes}
-use Rattle.broker.specs.Laws.Logic.{not-both, or-false-left, or-false-right}
 use Rattle.broker.specs.Laws.Ranks.{everyRank-at, everyRank-of}
 use Rattle.broker.specs.Names.{hosts, numbers, isStarted, isRunning, isMigrating, isEnded, endpoint, isOpenRequest, asksFor, isClosed, isOpen, isClosing, isClear, isUnheeded}
-use Rattle.broker.specs.Ranks.{isRank}
 use Rattle.broker.specs.State.{State, status, request, connection, backlog, drawnOn, messages}
 use Rattle.broker.specs.declared.link.Connection.{Connection}
 use Rattle.broker.specs.declared.link.Connection.the-variants.{Closed, Open, Closing}

@@ -6,9 +6,9 @@ use mathlib.Core.List.{List, map}
 use mathlib.Core.Option.{none}
 use Prim.Native.Nat.{ℕ, _<_}
 use lib.ListN.{length, length-map, getD}
-use Rattle.transit.specs.Laws.Lists.{select-map}
-use Rattle.transit.specs.Laws.Tests.{both-left}
-use Rattle.transit.specs.Lists.{tally}
+use Rattle.base.specs.Laws.Lists.{select-map}
+use Rattle.base.specs.Laws.Tests.{both-left, not-both, or-right}
+use Rattle.base.specs.Lists.{tally}
 use Rattle.transit.specs.Message.{between, to}
 use Rattle.transit.specs.declared.Message.{Message}
 use Rattle.transit.specs.declared.Rank.{Rank}
@@ -17,7 +17,6 @@ use Rattle.broker.specs.Laws.Accepted.{One, Two, SendFits, start-fits, s
 use Rattle.broker.specs.Laws.Accepts.{start-accepted, call-accepted, route-accepted, send-accepted, take-accepted, move-accepted, land-accepted, part-accepted, end-accepted}
 use Rattle.broker.specs.Laws.Checks.{passes}
 use Rattle.broker.specs.Laws.Core.{Core, core, settled, letter, core-status, endpoint-settled}
-use Rattle.broker.specs.Laws.Logic.{not-both, or-right}
 use Rattle.broker.specs.Laws.Quiet.{Calm, AllQuiet, Moving, Calling, Joined, nobody}
 use Rattle.broker.specs.Laws.Sound.{Pairs, facts}
 use Rattle.broker.specs.Laws.State.{sameRank-self}
@@ -25,7 +24,7 @@ use Rattle.broker.specs.Names.{isStarted, isRunning, isMigrating, isLive
 use Rattle.broker.specs.Sound.{sound}
 use Rattle.broker.specs.State.{State, status, connection, backlog, drawnOn, messages}
 use Rattle.broker.specs.declared.link.Backlog.{Backlog}
-use Rattle.broker.specs.declared.link.Backlog.the-variants.{Clear, Open as Unheeded, Marked}
+use Rattle.broker.specs.declared.link.Backlog.the-variants.{Clear, Unheeded, Marked}
 use Rattle.broker.specs.declared.link.Connection.{Connection}
 use Rattle.broker.specs.declared.link.Connection.the-variants.{Closed, Open, Closing}
 use Rattle.broker.specs.declared.link.Link.{Link}

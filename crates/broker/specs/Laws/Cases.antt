@@ -2,6 +2,7 @@
 -- choose between. Assumes nothing.
 use mathlib.Core.Path.{_≡_, refl}
 use mathlib.Core.Bool.{Bool, true, false, cond}
+use Rattle.base.specs.Laws.Tests.{chosen}
 use Rattle.transit.specs.Message.{sameRank}
 use Rattle.transit.specs.Unread.{firstSent, relabelFirst}
 use Rattle.transit.specs.declared.Found.{Found}
@@ -10,21 +11,11 @@ use Rattle.transit.specs.declared.Place.the-variants.{SourceList}
 use Rattle.transit.specs.declared.Rank.{Rank}
 use Rattle.broker.specs.Connect.{route, routeToEnded, routeThere, routeOn}
 use Rattle.broker.specs.Laws.State.{sameRank-eq}
-use Rattle.broker.specs.Life.{Done}
-use Rattle.broker.specs.Migrate.{await, drain, drainFound, onSourceChannel}
+use Rattle.broker.specs.Done.{Done}
+use Rattle.broker.specs.State.{await, State, status, request, withLinks, withUnread}
+use Rattle.broker.specs.Migrate.{drain, drainFound, onSourceChannel}
 use Rattle.broker.specs.Names.{sameVmid, isEnded, endpoint, postedTo}
-use Rattle.broker.specs.State.{State, status, request, withLinks, withUnread}
 use Rattle.broker.specs.declared.link.Backlog.the-variants.{Clear}
-
--- what holds of either value, under the answer that chooses it, holds of the chosen
-pub chosen : {A : Type 0} (P : A → Type 0) (b : Bool) (x y : A) → (b ≡ true → P x) → (b ≡ false → P y) → P (cond b x y)
-chosen P true x y p q = p refl
-chosen P false x y p q = q refl
-
--- where a chosen test passes, it passes with a wider first test
-pub first-wider : (b x y z : Bool) → (x ≡ true → y ≡ true) → cond b x z ≡ true → cond b y z ≡ true
-first-wider true x y z wider h = wider h
-first-wider false x y z wider h = h
 
 -- of a value that differs at one rank: what holds there and what holds at every other
 pub chosen-at : {A : Type 0} (P : Rank → A → Type 0) (r a : Rank) (x y : A) → P r x → (sameRank a r ≡ false → P a y) → P a (cond (sameRank a r) x y)

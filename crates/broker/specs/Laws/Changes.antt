@@ -5,11 +5,11 @@ use mathlib.Core.Bool.{Bool, true, false, not, _&&_, _||_}
 use lib.Dec.{T}
 use Rattle.transit.specs.Message.{samePlace}
 use Rattle.transit.specs.declared.Place.{Place}
-use Rattle.transit.specs.declared.Place.the-variants.{SourceList, SourceChannel, List, Channel}
+use Rattle.transit.specs.declared.Place.the-variants.{SourceList, SourceChannel, EndList, Channel}
 use Rattle.broker.specs.Laws.View.{Standing, unstarted, running, migrating, ended, hasStarted, runs, migrates, lives, Side, Role, forward, backward, outside, turn, Change, pairFits, messageFits, keeps}
 use Rattle.broker.specs.Names.{isClosed, isOpen, isClosing, isClear, isUnheeded}
 use Rattle.broker.specs.declared.link.Backlog.{Backlog}
-use Rattle.broker.specs.declared.link.Backlog.the-variants.{Clear, Open as Unheeded, Marked}
+use Rattle.broker.specs.declared.link.Backlog.the-variants.{Clear, Unheeded, Marked}
 use Rattle.broker.specs.declared.link.Connection.{Connection}
 use Rattle.broker.specs.declared.link.Connection.the-variants.{Closed, Open, Closing}
 
@@ -104,7 +104,7 @@ facedLine Closing x = awaitAs Marked x
 abbrev pub leftPlace : Place → Place
 leftPlace SourceList = SourceList
 leftPlace SourceChannel = SourceChannel
-leftPlace List = SourceList
+leftPlace EndList = SourceList
 leftPlace Channel = SourceChannel
 
 abbrev pub moving : Change
@@ -117,8 +117,8 @@ moving =
 abbrev pub readPlace : Place → Place
 readPlace SourceList = SourceList
 readPlace SourceChannel = SourceChannel
-readPlace List = List
-readPlace Channel = List
+readPlace EndList = EndList
+readPlace Channel = EndList
 
 -- heed: the first's line becomes none, the second's await is marked
 abbrev pub heeding : Change
@@ -134,9 +134,9 @@ clearing =
 
 -- "place 0 goes to 2"
 abbrev pub landedPlace : Place → Place
-landedPlace SourceList = List
+landedPlace SourceList = EndList
 landedPlace SourceChannel = SourceChannel
-landedPlace List = List
+landedPlace EndList = EndList
 landedPlace Channel = Channel
 
 -- land: the arrival runs

@@ -6,7 +6,7 @@ use mathlib.Core.List.{List, [], _∷_, _++_}
 use mathlib.Core.Option.{Option, none, some}
 use native.Mathlib.Omega.{arith}
 use Prim.Native.Nat.{ℕ}
-use Rattle.transit.specs.Lists.{every}
+use Rattle.base.specs.Lists.{every}
 use Rattle.broker.specs.Checks.{Check, checks, firstOf, refusal, rankRange, hostRange, rankTwice, notStarted, alreadyStarted, hasEnded, firstMigrating, notMigrating, connected, requestOpen, noRequest, notConnected, peerMigrating, noNotice, sameHost, backlogLeft, noBacklog, nothingToDrain, nothingUnread, unreadLeft, full, numbersSpent}
 use Rattle.broker.specs.State.{State}
 use Rattle.broker.specs.declared.answer.Refusal.{Refusal}

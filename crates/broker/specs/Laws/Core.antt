@@ -5,16 +5,16 @@ use mathlib.Core.Bool.{Bool, true}
 use mathlib.Core.List.{List, [], _∷_, _++_, map, map-map}
 use Prim.Native.Nat.{ℕ, zero, suc, _+_, _<_}
 use lib.ListN.{getD, set}
-use Rattle.transit.specs.Laws.Lists.{changeEach-keeps, select-map}
+use Rattle.base.specs.Laws.Lists.{changeEach-keeps, select-map}
 use Rattle.transit.specs.Laws.Order.{place-order-is-list-order}
 use Rattle.transit.specs.Laws.Pairs.{values}
-use Rattle.transit.specs.Laws.Tests.{by-test}
-use Rattle.transit.specs.Lists.{without}
+use Rattle.base.specs.Laws.Tests.{by-test}
+use Rattle.base.specs.Lists.{without}
 use Rattle.transit.specs.Message.{between, picks, placeOrder, relabelled}
 use Rattle.transit.specs.Unread.{eachTo, firstTo}
 use Rattle.transit.specs.declared.Message.{Message}
 use Rattle.transit.specs.declared.Place.{Place}
-use Rattle.transit.specs.declared.Place.the-variants.{List as EndList}
+use Rattle.transit.specs.declared.Place.the-variants.{EndList}
 use Rattle.transit.specs.declared.Rank.{Rank}
 use Rattle.transit.specs.declared.Selection.{Selection}
 use Rattle.transit.specs.declared.Selection.the-variants.{Between}

@@ -8,10 +8,10 @@ use Prim.Native.Nat.{ℕ}
 use borrow.Author.Tests.{lt-ltb}
 use lib.Dec.{eqb}
 use lib.ListN.{length}
-use Rattle.transit.specs.Laws.Lists.{select-map, without-head}
+use Rattle.base.specs.Laws.Lists.{select-map, without-head}
 use Rattle.transit.specs.Laws.Operations.{appends, relabels, relabels-first}
 use Rattle.transit.specs.Laws.Removed.{removed-sent-first}
-use Rattle.transit.specs.Lists.{select, without}
+use Rattle.base.specs.Lists.{select, without}
 use Rattle.transit.specs.Message.{between}
 use Rattle.transit.specs.Unread.{limit, counted}
 use Rattle.transit.specs.declared.Found.the-variants.{First}
@@ -24,7 +24,7 @@ use Rattle.broker.specs.Laws.Accepted.{SendFits, TakeFits, LandFits, sen
 use Rattle.broker.specs.Laws.Cases.{drain-cases}
 use Rattle.broker.specs.Laws.Checks.{passes}
 use Rattle.broker.specs.Laws.Core.{core, settled, letter, arrives, coreStep, valuesBetween, map-set, without-map, eachTo-letters, firstTo-letters, core-status, endpoint-settled}
-use Rattle.broker.specs.Laws.Logic.{not-both}
+use Rattle.base.specs.Laws.Tests.{not-both}
 use Rattle.broker.specs.Laws.Sound.{facts}
 use Rattle.broker.specs.Laws.Standings.{standings-with-status, standings-with-request, call-unseen, route-unseen}
 use Rattle.broker.specs.Life.{start, end}

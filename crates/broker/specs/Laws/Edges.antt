@@ -3,14 +3,15 @@ use mathlib.Core.Path.{_≡_, refl, ap, _∙_}
 use mathlib.Core.Bool.{Bool, true, _&&_}
 use mathlib.Core.List.{List, [], _∷_}
 use lib.Dec.{T, eqb}
-use Rattle.transit.specs.Laws.Lists.{every-wider}
-use Rattle.transit.specs.Lists.{every}
+use Rattle.base.specs.Laws.Lists.{every-wider}
+use Rattle.base.specs.Lists.{every}
 use Rattle.broker.specs.Answer.{number}
 use Rattle.broker.specs.Edges.{Try, Edge, plays, edges, holds}
-use Rattle.broker.specs.Laws.Logic.{true-of}
+use Rattle.base.specs.Laws.Tests.{true-of}
 use Rattle.broker.specs.Laws.Opened.{opened}
 use Rattle.broker.specs.Laws.Step.{step-of-sound, step-keeps-sound}
-use Rattle.broker.specs.Ranks.{rank, everyRank, everyPair}
+use Rattle.transit.specs.Message.{rank}
+use Rattle.broker.specs.Ranks.{everyRank, everyPair}
 use Rattle.broker.specs.Sound
 use Rattle.broker.specs.State.{State, fresh}
 use Rattle.broker.specs.Step.{Outcome, step, stepSound}

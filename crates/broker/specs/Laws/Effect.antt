@@ -5,17 +5,15 @@ use mathlib.Core.Bool.{Bool, true, false, cond, not, _&&_}
 use Prim.Native.Nat.{_<_}
 use borrow.Author.Tests.{ltb-true, not-true}
 use lib.Dec.{T}
-use Rattle.transit.specs.Laws.Tests.{both, both-left, both-right}
-use Rattle.transit.specs.Message.{sameRank, relabelled}
+use Rattle.base.specs.Laws.Tests.{both, both-left, both-right, not-both}
+use Rattle.transit.specs.Message.{sameRank, relabelled, isRank}
 use Rattle.transit.specs.declared.Message.{Message}
 use Rattle.transit.specs.declared.Place.{Place}
 use Rattle.transit.specs.declared.Rank.{Rank}
 use Rattle.broker.specs.Laws.Fit.{pair-fits, pair-kept, message-kept, pairs-from-fits, nothingWith, fits}
-use Rattle.broker.specs.Laws.Logic.{not-both}
 use Rattle.broker.specs.Laws.Sound.{AtRanks, Pairs, isNamed}
 use Rattle.broker.specs.Laws.State.{sameRank-eq, sameRank-self, sameRank-joins}
 use Rattle.broker.specs.Laws.View.{Standing, Side, side, Role, forward, backward, outside, turn, Change, pairFits, messageFits, given, keeps}
-use Rattle.broker.specs.Ranks.{isRank}
 use Rattle.broker.specs.State.{State}
 use Rattle.broker.specs.declared.link.Backlog.{Backlog}
 use Rattle.broker.specs.declared.link.Connection.{Connection}

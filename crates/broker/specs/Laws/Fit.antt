@@ -6,24 +6,22 @@ use mathlib.Core.List.{List, [], _∷_}
 use lib.Dec.{T}
 use Prim.Native.Nat.{_<_}
 use borrow.Author.Tests.{ltb-true, not-true}
-use Rattle.transit.specs.Laws.Lists.{every-both, every-wider}
-use Rattle.transit.specs.Laws.Tests.{both, both-left, both-right}
-use Rattle.transit.specs.Lists.{every}
-use Rattle.transit.specs.Message.{sameRank, samePlace, at}
+use Rattle.base.specs.Laws.Lists.{every-both, every-wider}
+use Rattle.base.specs.Laws.Tests.{both, both-left, both-right, AllTrue, parts, chained, true-of}
+use Rattle.base.specs.Lists.{every}
+use Rattle.transit.specs.Message.{sameRank, samePlace, at, isRank}
 use Rattle.transit.specs.declared.Message.{Message}
 use Rattle.transit.specs.declared.Place.{Place}
 use Rattle.transit.specs.declared.Place.the-variants.{SourceList, SourceChannel, Channel}
 use Rattle.transit.specs.declared.Place.the-variants as places
 use Rattle.transit.specs.declared.Rank.{Rank}
-use Rattle.broker.specs.Laws.Logic.{AllTrue, parts, chained, true-of}
 use Rattle.broker.specs.Laws.Sound.{AtRanks, AtPairs, Pairs, Mail, isNamed, hasEnds, fitsUnheeded, fitsPlace}
 use Rattle.broker.specs.Laws.State.{sameRank-eq}
 use Rattle.broker.specs.Laws.View.{Standing, unstarted, running, migrating, ended, standing, hasStarted, runs, migrates, lives, Side, side, Role, forward, backward, outside, turn, Change, pairFits, messageFits, sideFits, given, keeps, pairKept, messageKept, atStandings, atConnections, atBacklogs, atBools, atPlaces, atRoles, atSides, atPairs}
 use Rattle.broker.specs.Names.{isStarted, isRunning, isMigrating, isLive, asksFor, isClosed, isOpen, isClosing, isClear, isUnheeded}
-use Rattle.broker.specs.Ranks.{isRank}
 use Rattle.broker.specs.State.{State, status, request, connection, backlog, messages}
 use Rattle.broker.specs.declared.link.Backlog.{Backlog}
-use Rattle.broker.specs.declared.link.Backlog.the-variants.{Clear, Open as Unheeded, Marked}
+use Rattle.broker.specs.declared.link.Backlog.the-variants.{Clear, Unheeded, Marked}
 use Rattle.broker.specs.declared.link.Connection.{Connection}
 use Rattle.broker.specs.declared.link.Connection.the-variants.{Closed, Open, Closing}
 use Rattle.broker.specs.declared.process.Status.{Status}
@@ -52,10 +50,10 @@ at-bool f h true = both-left (f true) (f false) h
 at-bool f h false = both-right (f true) (f false) h
 
 at-each-place : (f : Place → Bool) → atPlaces f ≡ true → (p : Place) → f p ≡ true
-at-each-place f h places.SourceList = parts (f places.SourceList) (f places.SourceChannel ∷ f places.List ∷ f places.Channel ∷ []) h .0
-at-each-place f h places.SourceChannel = parts (f places.SourceList) (f places.SourceChannel ∷ f places.List ∷ f places.Channel ∷ []) h .1 .0
-at-each-place f h places.List = parts (f places.SourceList) (f places.SourceChannel ∷ f places.List ∷ f places.Channel ∷ []) h .1 .1 .0
-at-each-place f h places.Channel = parts (f places.SourceList) (f places.SourceChannel ∷ f places.List ∷ f places.Channel ∷ []) h .1 .1 .1 .0
+at-each-place f h places.SourceList = parts (f places.SourceList) (f places.SourceChannel ∷ f places.EndList ∷ f places.Channel ∷ []) h .0
+at-each-place f h places.SourceChannel = parts (f places.SourceList) (f places.SourceChannel ∷ f places.EndList ∷ f places.Channel ∷ []) h .1 .0
+at-each-place f h places.EndList = parts (f places.SourceList) (f places.SourceChannel ∷ f places.EndList ∷ f places.Channel ∷ []) h .1 .1 .0
+at-each-place f h places.Channel = parts (f places.SourceList) (f places.SourceChannel ∷ f places.EndList ∷ f places.Channel ∷ []) h .1 .1 .1 .0
 
 at-role : (f : Role → Bool) → atRoles f ≡ true → (k : Role) → f k ≡ true
 at-role f h forward = parts (f forward) (f backward ∷ f outside ∷ []) h .0

@@ -9,21 +9,21 @@ use native.Mathlib.Decide.{ℕ-discrete}
 use borrow.Author.Tests.{lt-ltb, le-ltb, ltb-true, ltb-false, eqb-true, eqb-false, ne-eqb}
 use lib.Dec.{ltb, eqb}
 use lib.ListN.{length, length-set}
-use Rattle.transit.specs.Laws.Tests.{both-left, both-right}
-use Rattle.transit.specs.Message.{sameRank}
+use Rattle.base.specs.Laws.Tests.{both-left, both-right, not-both}
+use Rattle.transit.specs.Message.{sameRank, rank}
 use Rattle.transit.specs.declared.Rank.{Rank}
 use Rattle.broker.specs.Laws.Changes.{byRole}
 use Rattle.broker.specs.Laws.Effect.{roleOf, sameRank-turned, not-twice}
 use Rattle.broker.specs.Laws.Links.{connect-long, await-long, connect-connection, connect-backlog, await-connection, await-backlog}
-use Rattle.broker.specs.Laws.Logic.{not-both}
 use Rattle.broker.specs.Laws.State.{link-set, sameRank-eq, sameRank-self, sameRank-joins}
 use Rattle.broker.specs.Laws.View.{Role, forward, backward, outside}
 use Rattle.broker.specs.Migrate.{leave, leaveOver, leaveAll}
 use Rattle.broker.specs.Names.{isClosed}
-use Rattle.broker.specs.Ranks.{rank, eachBelow, eachRank}
+use Rattle.broker.specs.Ranks.{eachRank}
+use Rattle.base.specs.Below.{eachBelow}
 use Rattle.broker.specs.State.{cell, linkAt, setLink, apart}
 use Rattle.broker.specs.declared.link.Backlog.{Backlog}
-use Rattle.broker.specs.declared.link.Backlog.the-variants.{Clear, Open as Unheeded, Marked}
+use Rattle.broker.specs.declared.link.Backlog.the-variants.{Clear, Unheeded, Marked}
 use Rattle.broker.specs.declared.link.Connection.{Connection}
 use Rattle.broker.specs.declared.link.Connection.the-variants.{Closed, Open, Closing}
 use Rattle.broker.specs.declared.link.Link.{Link}

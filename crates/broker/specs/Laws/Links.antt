@@ -5,13 +5,11 @@ use mathlib.Core.Bool.{Bool, true, false, cond, _&&_}
 use mathlib.Core.List.{List}
 use Prim.Native.Nat.{ℕ, _<_}
 use lib.ListN.{length, length-set}
-use Rattle.transit.specs.Laws.Tests.{both-left, both-right}
+use Rattle.base.specs.Laws.Tests.{both-left, both-right}
 use Rattle.transit.specs.Message.{sameRank}
 use Rattle.transit.specs.declared.Rank.{Rank}
-use Rattle.broker.specs.Connect.{connect}
+use Rattle.broker.specs.State.{connect, await, cell, linkAt, setLink}
 use Rattle.broker.specs.Laws.State.{link-set, sameRank-eq}
-use Rattle.broker.specs.Migrate.{await}
-use Rattle.broker.specs.State.{cell, linkAt, setLink}
 use Rattle.broker.specs.declared.link.Backlog.{Backlog}
 use Rattle.broker.specs.declared.link.Connection.{Connection}
 use Rattle.broker.specs.declared.link.Link.{Link}

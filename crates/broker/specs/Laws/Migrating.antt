@@ -6,7 +6,7 @@ use mathlib.Core.List.{List, [], _∷_}
 use mathlib.Core.Option.{none}
 use Prim.Native.Nat.{_<_}
 use lib.ListN.{getD}
-use Rattle.transit.specs.Laws.Tests.{by-test}
+use Rattle.base.specs.Laws.Tests.{by-test, not-both}
 use Rattle.transit.specs.Message.{sameRank}
 use Rattle.transit.specs.declared.Rank.{Rank}
 use Rattle.broker.specs.Checks.{is, refusal}
@@ -15,17 +15,16 @@ use Rattle.broker.specs.Kind
 use Rattle.broker.specs.Laws.Accepted.{start-fits, move-fits, land-fits, end-fits, running-not-migrating}
 use Rattle.broker.specs.Laws.Cases.{drain-cases}
 use Rattle.broker.specs.Laws.Checks.{passes}
-use Rattle.broker.specs.Laws.Logic.{not-both}
 use Rattle.broker.specs.Laws.Sound.{facts}
 use Rattle.broker.specs.Laws.Standings.{standings, standing-at, standings-with-status, standings-with-request, call-unseen, route-unseen}
 use Rattle.broker.specs.Laws.State.{status-with}
-use Rattle.broker.specs.Life.{start, end, nextVmid}
+use Rattle.broker.specs.Life.{start, end}
+use Rattle.broker.specs.State.{nextVmid, State, status, withStatus}
 use Rattle.broker.specs.Messages.{send, take, look}
 use Rattle.broker.specs.Migrate.{move, heed, land}
 use Rattle.broker.specs.Names.{endpoint, isStarted, isMigrating}
 use Rattle.broker.specs.Record.{firstRank}
 use Rattle.broker.specs.Sound.{sound}
-use Rattle.broker.specs.State.{State, status, withStatus}
 use Rattle.broker.specs.Step.{apply}
 use Rattle.broker.specs.declared.process.Status.{Status}
 use Rattle.broker.specs.declared.process.Status.the-variants.{Unstarted, Running, Migrating, Ended}

@@ -9,17 +9,14 @@ use native.Mathlib.Omega.{arith}
 use borrow.Author.Tests.{ltb-true, lt-ltb, leb-true, le-leb, eqb-true, eq-eqb, ne-eqb}
 use lib.Dec.{eqb, leb, ltb}
 use lib.ListN.{length}
-use Rattle.transit.specs.Laws.Tests.{both, both-left, both-right}
-use Rattle.transit.specs.Lists.{every}
-use Rattle.transit.specs.Laws.Lists.{every-wider}
+use Rattle.base.specs.Laws.Tests.{both, both-left, both-right, chosen, not-both, parts, chained}
+use Rattle.base.specs.Lists.{every}
+use Rattle.base.specs.Laws.Lists.{every-wider}
 use Rattle.transit.specs.declared.Rank.{Rank}
-use Rattle.broker.specs.Laws.Cases.{chosen}
-use Rattle.broker.specs.Laws.Logic.{not-both, parts, chained}
 use Rattle.broker.specs.Laws.State.{drawn-with}
-use Rattle.broker.specs.Life.{nextVmid, draw}
+use Rattle.broker.specs.State.{nextVmid, draw, State, drawnOn}
 use Rattle.broker.specs.Names.{hosts, sameVmid, isStarted, isEnded, endpoint, processesOf, vmidsOf}
 use Rattle.broker.specs.Sound.{isDrawn, ofCall, noneShared}
-use Rattle.broker.specs.State.{State, drawnOn}
 use Rattle.broker.specs.declared.process.Request.{Request}
 use Rattle.broker.specs.declared.process.Request.the-variants.{Absent, Posted}
 use Rattle.broker.specs.declared.process.Status.{Status}

@@ -7,20 +7,21 @@ use Prim.Native.Nat.{ℕ, zero, suc, _<_, _≤_}
 use native.Mathlib.Omega.{arith}
 use borrow.Author.Tests.{eq-eqb}
 use lib.ListN.{length}
-use Rattle.transit.specs.Laws.Tests.{by-test}
-use Rattle.transit.specs.Message.{sameRank}
+use Rattle.base.specs.Laws.Tests.{by-test}
+use Rattle.transit.specs.Message.{sameRank, rank}
 use Rattle.transit.specs.declared.Rank.{Rank}
-use Rattle.broker.specs.Connect.{connect, connectBoth, call, route, part, routeOn}
-use Rattle.broker.specs.Laws.Each.{long-set}
+use Rattle.broker.specs.State.{connect, nextVmid, State, linkAt, status, request, location, withStatus, withRequest, withLinks}
+use Rattle.broker.specs.Connect.{connectBoth, call, route, part, routeOn}
+use Rattle.base.specs.Laws.Stores.{long-set}
 use Rattle.broker.specs.Laws.Links.{connect-long}
 use Rattle.broker.specs.Laws.State.{sameRank-self, link-set, status-with, request-with-status, request-with, status-with-request}
-use Rattle.broker.specs.Life.{start, end, nextVmid}
+use Rattle.broker.specs.Life.{start, end}
 use Rattle.broker.specs.Messages.{send, take}
 use Rattle.broker.specs.Migrate.{move, land, leave, leaveAll}
 use Rattle.broker.specs.Names.{sameVmid, endpoint, isMigrating, isEnded}
-use Rattle.broker.specs.Ranks.{rank, eachBelow, eachRank}
+use Rattle.broker.specs.Ranks.{eachRank}
+use Rattle.base.specs.Below.{eachBelow}
 use Rattle.broker.specs.Sound.{sound}
-use Rattle.broker.specs.State.{State, linkAt, status, request, location, withStatus, withRequest, withLinks}
 use Rattle.broker.specs.declared.link.Backlog.the-variants.{Clear}
 use Rattle.broker.specs.declared.link.Connection.{Connection}
 use Rattle.broker.specs.declared.link.Connection.the-variants.{Closed, Open}

@@ -7,17 +7,16 @@ use Prim.Native.Nat.{ℕ, _<_, _≤_}
 use borrow.Author.Tests.{eqb-true, eq-eqb, leb-true, le-leb}
 use lib.Dec.{eqb, leb}
 use lib.ListN.{length}
-use Rattle.transit.specs.Laws.Tests.{both}
-use Rattle.transit.specs.Lists.{select, every, neverFalls}
-use Rattle.transit.specs.Message.{between, at, placeNumber, sameRank}
+use Rattle.base.specs.Laws.Tests.{both, parts, chained}
+use Rattle.base.specs.Lists.{select, every, neverFalls}
+use Rattle.transit.specs.Message.{between, at, placeNumber, sameRank, isRank}
 use Rattle.transit.specs.Unread.{limit}
 use Rattle.transit.specs.declared.Message.{Message}
 use Rattle.transit.specs.declared.Place.the-variants.{SourceList, SourceChannel, Channel}
 use Rattle.transit.specs.declared.Rank.{Rank}
-use Rattle.broker.specs.Laws.Logic.{parts, chained}
-use Rattle.broker.specs.Laws.Ranks.{allBelow-at, allBelow-of, everyRank-at, everyRank-of, everyPair-at, everyPair-of}
+use Rattle.base.specs.Laws.Below.{allBelow-at, allBelow-of}
+use Rattle.broker.specs.Laws.Ranks.{everyRank-at, everyRank-of, everyPair-at, everyPair-of}
 use Rattle.broker.specs.Names.{hosts, numbers, unknown, sameVmid, isStarted, isRunning, isMigrating, isLive, processesOf, vmidsOf, asksFor, isClosed, isOpen, isClosing, isClear, isUnheeded}
-use Rattle.broker.specs.Ranks.{isRank}
 use Rattle.broker.specs.Sound
 use Rattle.broker.specs.Sound.{sound, isDrawn, ofCall, noneShared, distinct}
 use Rattle.broker.specs.State.{State, status, request, location, connection, backlog, drawnOn, messages}

@@ -6,7 +6,8 @@ use lib.ListN.{getD, List·getD-map}
 use lib.Seq.{map-set-same}
 use Rattle.transit.specs.declared.Rank.{Rank}
 use Rattle.broker.specs.Connect.{call, route, withdraw, connectBoth}
-use Rattle.broker.specs.Laws.Cases.{chosen, route-cases}
+use Rattle.base.specs.Laws.Tests.{chosen}
+use Rattle.broker.specs.Laws.Cases.{route-cases}
 use Rattle.broker.specs.Names.{asksFor}
 use Rattle.broker.specs.State.{State, idle, status, request, withStatus, withRequest, withLinks, withLocations}
 use Rattle.broker.specs.declared.link.Connection.the-variants.{Open}

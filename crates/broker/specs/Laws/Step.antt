@@ -9,14 +9,14 @@ use native.Mathlib.Omega.{arith}
 use borrow.Author.Tests.{not-true}
 use lib.Dec.{leb, ltb}
 use lib.ListN.{length, getD}
-use Rattle.transit.specs.Laws.Tests.{both-left, both-right}
-use Rattle.transit.specs.Lists.{every}
+use Rattle.base.specs.Laws.Tests.{both-left, both-right}
+use Rattle.base.specs.Lists.{every}
 use Rattle.transit.specs.declared.Rank.{Rank}
 use Rattle.broker.specs.Answer.{refusalNumber, values}
 use Rattle.broker.specs.Checks.{Check, checks, firstOf, refusal}
 use Rattle.broker.specs.Kind
 use Rattle.broker.specs.Laws.Kept.{sound-kept}
-use Rattle.broker.specs.Life.{Done}
+use Rattle.broker.specs.Done.{Done}
 use Rattle.broker.specs.Record.{decode, recordOf}
 use Rattle.broker.specs.Sound.{sound}
 use Rattle.broker.specs.State.{State}

@@ -2,15 +2,15 @@
 -- soundness says of a pair, and of one message of it, is a test of that view. Assumes nothing.
 use mathlib.Core.Path.{_≡_, refl}
 use mathlib.Core.Bool.{Bool, true, false, not, Bool·beq, _&&_, _||_}
-use Rattle.transit.specs.Laws.Tests.{both-left, both-right}
+use Rattle.base.specs.Laws.Tests.{both-left, both-right}
 use Rattle.transit.specs.Message.{samePlace}
 use Rattle.transit.specs.declared.Place.{Place}
-use Rattle.transit.specs.declared.Place.the-variants.{SourceList, SourceChannel, List, Channel}
+use Rattle.transit.specs.declared.Place.the-variants.{SourceList, SourceChannel, EndList, Channel}
 use Rattle.transit.specs.declared.Rank.{Rank}
 use Rattle.broker.specs.Names.{asksFor, isClosed, isOpen, isClosing, isClear, isUnheeded}
 use Rattle.broker.specs.State.{State, status, request, connection, backlog}
 use Rattle.broker.specs.declared.link.Backlog.{Backlog}
-use Rattle.broker.specs.declared.link.Backlog.the-variants.{Clear, Open as Unheeded, Marked}
+use Rattle.broker.specs.declared.link.Backlog.the-variants.{Clear, Unheeded, Marked}
 use Rattle.broker.specs.declared.link.Connection.{Connection}
 use Rattle.broker.specs.declared.link.Connection.the-variants.{Closed, Open, Closing}
 use Rattle.broker.specs.declared.process.Status.{Status}
@@ -112,7 +112,7 @@ abbrev pub atBools : (Bool → Bool) → Bool
 atBools f = f true && f false
 
 abbrev pub atPlaces : (Place → Bool) → Bool
-atPlaces f = f SourceList && f SourceChannel && f List && f Channel
+atPlaces f = f SourceList && f SourceChannel && f EndList && f Channel
 
 abbrev pub atRoles : (Role → Bool) → Bool
 atRoles f = f forward && f backward && f outside

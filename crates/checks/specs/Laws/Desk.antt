@@ -2,7 +2,7 @@
 use mathlib.Core.List.{List}
 use Prim.Native.Nat.{ℕ}
 use Rattle.transit.specs.Mail.{Mail, unreadIn}
-use Rattle.broker.specs.Life.{Done}
+use Rattle.broker.specs.Done.{Done}
 use Rattle.broker.specs.State.{State}
 use Rattle.broker.specs.declared.answer.Values.{Values}
 use Rattle.checks.specs.Desk.{RosterDoes, DeskDoes}

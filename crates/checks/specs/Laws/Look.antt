@@ -8,7 +8,7 @@ use native.Mathlib.Nat.{pos-of-ne-zero}
 use native.Mathlib.Omega.{arith}
 use borrow.Author.Tests.{eqb-false}
 use lib.ListN.{length}
-use Rattle.transit.specs.Lists.{tally, select}
+use Rattle.base.specs.Lists.{tally, select}
 use Rattle.transit.specs.Message.{to, between}
 use Rattle.transit.specs.Unread.{head}
 use Rattle.transit.specs.declared.Message.{Message}

@@ -3,7 +3,7 @@ use mathlib.Core.Option.{none, some}
 use mathlib.Core.Path.{_≡_, sym, ap, _∙_}
 use Rattle.transit.specs.declared.Rank.{Rank}
 use Rattle.broker.specs.Checks.{refusal}
-use Rattle.broker.specs.Life.{Done}
+use Rattle.broker.specs.Done.{Done}
 use Rattle.broker.specs.State.{State}
 use Rattle.broker.specs.Step.{Settlement, settle, apply}
 use Rattle.broker.specs.declared.answer.Answer.the-variants.{Accepted, Refused}
@@ -13,11 +13,11 @@ use Rattle.broker.specs.declared.record.Record.{Record}
 use Rattle.checks.specs.Desk.{Judges, Does}
 use Rattle.checks.specs.Verdict.{verdictOf}
 use Rattle.checks.specs.declared.verdict.Verdict.{Verdict}
-use Rattle.checks.specs.declared.verdict.Verdict.the-variants.{Passed, Refused as Refusing}
+use Rattle.checks.specs.declared.verdict.Verdict.the-variants.{Passed, Failed}
 
 module _ (r : Record) (s : State) (v : Verdict) (judged : Judges r s v) (named : Rank) where
   -- a verdict that refuses: the state is as it was
-  pub settle-refused : (n : Refusal) → v ≡ Refusing n → _≡_ {A = Settlement} (record { answer = Refused n; state = s }) (settle named r s)
+  pub settle-refused : (n : Refusal) → v ≡ Failed n → _≡_ {A = Settlement} (record { answer = Refused n; state = s }) (settle named r s)
   unfolding settle
   settle-refused n e = let h : refusal s r ≡ some n = sym judged ∙ ap verdictOf e in rw h
 

@@ -7,18 +7,18 @@ use native.Mathlib.Omega.{arith}
 use borrow.Author.Tests.{eqb-true, eqb-false, ne-eqb}
 use lib.Dec.{eqb}
 use lib.ListN.{length, length-map}
-use Rattle.transit.specs.Laws.Lists.{select-map}
+use Rattle.base.specs.Laws.Lists.{select-map}
 use Rattle.transit.specs.Laws.Promise.{relabelled-unread}
-use Rattle.transit.specs.Laws.Tests.{by-test, both-left}
-use Rattle.transit.specs.Lists.{tally, changeEach}
+use Rattle.base.specs.Laws.Tests.{by-test, both-left}
+use Rattle.base.specs.Lists.{tally, changeEach}
 use Rattle.transit.specs.Mail.{Relabelled, messagesIn, unreadIn}
 use Rattle.transit.specs.Message.{sameRank, between, picks, relabelled}
 use Rattle.transit.specs.Unread.{Unread, eachTo, relabelAll}
 use Rattle.transit.specs.declared.Message.{Message}
-use Rattle.transit.specs.declared.Place.the-variants.{List as EndList}
+use Rattle.transit.specs.declared.Place.the-variants.{EndList}
 use Rattle.transit.specs.declared.Rank.{Rank}
 use Rattle.broker.specs.Connect.{connectBoth, onChannel, part}
-use Rattle.broker.specs.Life.{done}
+use Rattle.broker.specs.Done.{done}
 use Rattle.broker.specs.State.{State, withUnread}
 use Rattle.broker.specs.declared.link.Connection.the-variants.{Closed}
 

@@ -4,7 +4,7 @@ use mathlib.Core.Path.{_≡_, refl, ap, _∙_}
 use Rattle.transit.specs.Unread.{Unread}
 use Rattle.transit.specs.declared.Rank.{Rank}
 use Rattle.broker.specs.Connect.{connectBoth, withdraw, routeThere}
-use Rattle.broker.specs.Life.{done}
+use Rattle.broker.specs.Done.{done}
 use Rattle.broker.specs.Names.{asksFor}
 use Rattle.broker.specs.State.{State, request, withRequest, withUnread}
 use Rattle.broker.specs.declared.link.Connection.the-variants.{Open}

@@ -3,10 +3,10 @@ use mathlib.Core.Path.{_≡_, ap, _∙_}
 use Prim.Native.Nat.{ℕ, _+_}
 use Rattle.transit.specs.Unread.{Unread}
 use Rattle.transit.specs.declared.Rank.{Rank}
-use Rattle.broker.specs.Life.{done}
-use Rattle.broker.specs.Migrate.{leftBehind, leaveAll, awaitsOf, move}
+use Rattle.broker.specs.Done.{done}
+use Rattle.broker.specs.Migrate.{leftBehind, leaveAll, move}
+use Rattle.broker.specs.State.{awaitsOf, State, status, drawnOn, withDrawn, withStatus, withLinks, withUnread}
 use Rattle.broker.specs.Names.{endpoint, vmid}
-use Rattle.broker.specs.State.{State, status, drawnOn, withDrawn, withStatus, withLinks, withUnread}
 use Rattle.broker.specs.declared.process.Status.the-variants.{Migrating}
 use Rattle.broker.specs.declared.process.Vmid.{Vmid}
 

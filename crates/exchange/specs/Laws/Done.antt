@@ -5,14 +5,14 @@ use mathlib.Core.List.{List}
 use Prim.Native.Nat.{ℕ, _<_}
 use lib.ListN.{length}
 use Rattle.transit.specs.Laws.Promise.{appended-unread, left-unread}
-use Rattle.transit.specs.Lists.{tally}
+use Rattle.base.specs.Lists.{tally}
 use Rattle.transit.specs.Mail.{Appended, Left, messagesIn, unreadIn}
 use Rattle.transit.specs.Message.{between}
 use Rattle.transit.specs.Unread.{limit}
 use Rattle.transit.specs.declared.Place.{Place}
 use Rattle.transit.specs.declared.Rank.{Rank}
 use Rattle.broker.specs.Laws.Sound.{facts}
-use Rattle.broker.specs.Life.{done}
+use Rattle.broker.specs.Done.{done}
 use Rattle.broker.specs.Messages.{placeOver, send, take}
 use Rattle.broker.specs.Sound.{sound}
 use Rattle.broker.specs.State.{State, connection, withUnread}

@@ -3,13 +3,12 @@ use mathlib.Core.Path.{_≡_, ap, _∙_}
 use mathlib.Core.List.{List, [], _∷_, _++_, append-assoc}
 use Prim.Native.Nat.{ℕ}
 use borrow.Author.Tests.{eq-eqb, ne-eqb}
-use Rattle.transit.specs.Lists.{tally}
-use Rattle.transit.specs.Message.{between}
+use Rattle.base.specs.Lists.{tally}
+use Rattle.transit.specs.Message.{between, rank}
 use Rattle.transit.specs.declared.Message.{Message}
 use Rattle.page.specs.Laws.Text.{numbers-append}
 use Rattle.page.specs.Text.{decimal, hex, newline, numbers, space}
 use Rattle.broker.specs.Answer.{number, values}
-use Rattle.broker.specs.Ranks.{rank}
 use Rattle.broker.specs.declared.answer.Answer.{Answer}
 use Rattle.lines.specs.Lines.{recordLine, pairWord, pairLine, countsAtPlaces, linesOfPair}
 

@@ -4,20 +4,20 @@ use mathlib.Core.Path.{_≡_, ap, _∙_}
 use mathlib.Core.List.{List}
 use Prim.Native.Nat.{ℕ}
 use Rattle.transit.specs.Laws.Promise.{relabelled-unread, first-relabelled-unread}
-use Rattle.transit.specs.Lists.{tally}
+use Rattle.base.specs.Lists.{tally}
 use Rattle.transit.specs.Mail.{Relabelled, FirstRelabelled, messagesIn, unreadIn}
 use Rattle.transit.specs.Message.{picks}
 use Rattle.transit.specs.Unread.{Unread, firstSent}
 use Rattle.transit.specs.declared.Found.the-variants.{First, Nothing}
 use Rattle.transit.specs.declared.Message.{Message}
-use Rattle.transit.specs.declared.Place.the-variants.{SourceList, List as EndList}
+use Rattle.transit.specs.declared.Place.the-variants.{SourceList, EndList}
 use Rattle.transit.specs.declared.Rank.{Rank}
 use Rattle.transit.specs.declared.Selection.the-variants.{ToAt}
-use Rattle.broker.specs.Connect.{connect, onChannel}
-use Rattle.broker.specs.Life.{done}
-use Rattle.broker.specs.Migrate.{await, heed, onSourceChannel, drain, land}
+use Rattle.broker.specs.State.{connect, await, State, status, withStatus, withLinks, withUnread}
+use Rattle.broker.specs.Connect.{onChannel}
+use Rattle.broker.specs.Done.{done}
+use Rattle.broker.specs.Migrate.{heed, onSourceChannel, drain, land}
 use Rattle.broker.specs.Names.{endpoint}
-use Rattle.broker.specs.State.{State, status, withStatus, withLinks, withUnread}
 use Rattle.broker.specs.declared.link.Backlog.the-variants.{Clear, Marked}
 use Rattle.broker.specs.declared.link.Connection.the-variants.{Closed}
 use Rattle.broker.specs.declared.process.Status.the-variants.{Running}

@@ -6,14 +6,14 @@ use Rattle.transit.specs.Unread.{firstSent}
 use Rattle.transit.specs.declared.Rank.{Rank}
 use Rattle.broker.specs.Checks.{refusal}
 use Rattle.broker.specs.Laws.Opened.{openedChecks}
-use Rattle.broker.specs.Migrate.{awaitsOf, onSourceChannel}
+use Rattle.broker.specs.State.{awaitsOf, State, status, connection, backlog}
+use Rattle.broker.specs.Migrate.{onSourceChannel}
 use Rattle.broker.specs.Names.{isClear}
-use Rattle.broker.specs.State.{State, status, connection, backlog}
 use Rattle.broker.specs.declared.record.Record.the-variants.{Heed, Drain, Land}
 use Rattle.checks.specs.Laws.Unread.{no-head}
 use Rattle.checks.specs.Laws.Verdict.{judged-first}
 use Rattle.checks.specs.Verdict.{passed, judged}
-use Rattle.checks.specs.Laws.Counts.{every-passes}
+use Rattle.broker.specs.Laws.Ranks.{everyRank-counts}
 use Rattle.migrate.specs.Tests.{heedTests, drainTests, landTests}
 
 -- each kind's refusal, by its tests at the parts of a state
@@ -31,5 +31,5 @@ by-tests s =
     record {
       heed = λ b r. rw judged-first (simp (and-true, or-false));
       drain = λ r p. rw (judged-first, ← no-head) (simp (and-true, or-false));
-      land = λ r. rw (judged-first, ← every-passes (λ p. isClear (backlog s r p))) (simp and-true);
+      land = λ r. rw (judged-first, ← everyRank-counts (λ p. isClear (backlog s r p))) (simp and-true);
     }

@@ -6,7 +6,7 @@ use native.Mathlib.Omega.{arith}
 use borrow.Author.Tests.{lt-ltb, le-ltb, ltb-true, ltb-false}
 use lib.Dec.{leb, ltb}
 use lib.ListN.{getD, length, length-append}
-use Rattle.transit.specs.Laws.Tests.{by-test}
+use Rattle.base.specs.Laws.Tests.{by-test}
 use Rattle.broker.specs.Kind.{isKind, bodyLength}
 use Rattle.broker.specs.Record.{decode}
 use Rattle.broker.specs.declared.answer.Answer.the-variants.{Refused}

@@ -6,7 +6,7 @@ use mathlib.Core.List.{List, [], _∷_, _++_, map}
 use Prim.Native.Nat.{ℕ, zero, suc, _<_}
 use lib.Dec.{ltb}
 use lib.ListN.{length}
-use Rattle.transit.specs.Laws.Tests.{by-test}
+use Rattle.base.specs.Laws.Tests.{by-test}
 use Rattle.transit.specs.declared.Rank.{Rank}
 use Rattle.broker.specs.Record.{decode}
 use Rattle.broker.specs.State.{State, fresh}

@@ -9,7 +9,7 @@ use native.Mathlib.Omega.{arith}
 use borrow.Author.Tests.{lt-ltb}
 use lib.Dec.{ltb, leb}
 use lib.ListN.{length}
-use Rattle.transit.specs.Laws.Tests.{by-test}
+use Rattle.base.specs.Laws.Tests.{by-test}
 use Rattle.transit.specs.declared.Rank.{Rank}
 use Rattle.broker.specs.Answer.{refusalNumber}
 use Rattle.broker.specs.Checks.{refusal, checks}

@@ -9,7 +9,7 @@ use borrow.Author.Tests.{eqb-true, eqb-false, ltb-true, ltb-false, leb-true}
 use lib.Dec.{eqb, ltb, leb}
 use lib.ListN.{length, take, drop, getD, take-append-drop}
 use lib.Seq.{length-take-le}
-use Rattle.transit.specs.Laws.Tests.{both-left, both-right, by-test}
+use Rattle.base.specs.Laws.Tests.{both-left, both-right, by-test}
 use Rattle.page.specs.Laws.Put.{shows}
 use Rattle.page.specs.Put.{Put}
 use Rattle.broker.specs.Kind.{isKind, bodyLength}

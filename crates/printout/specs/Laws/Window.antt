@@ -10,7 +10,7 @@ use borrow.Author.Tests.{eqb-true, eqb-false, ltb-true, ltb-false, leb-true, leb
 use lib.Dec.{eqb, ltb, leb}
 use lib.ListN.{length, getD, length-append, List·getD-append}
 use lib.Seq.{getD-append-add}
-use Rattle.transit.specs.Laws.Tests.{both-left, both-right, by-test}
+use Rattle.base.specs.Laws.Tests.{both-left, both-right, by-test}
 use Rattle.broker.specs.Kind.{isKind, bodyLength}
 use Rattle.broker.specs.Record.{decode, recordOf}
 use Rattle.broker.specs.declared.record.Decoded.{Decoded}

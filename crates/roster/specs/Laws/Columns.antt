@@ -11,9 +11,10 @@ use Rattle.broker.specs.State.{idle}
 use Rattle.broker.specs.declared.link.Link.{Link}
 use Rattle.broker.specs.declared.process.Process.{Process}
 use Rattle.broker.specs.declared.process.Vmid.{Vmid}
-use Rattle.roster.specs.Laws.Tabulate.{tabulate-at, tabulate-same, tabulate-set}
+use Rattle.base.specs.Laws.Tabulate.{tabulate-at, tabulate-same, tabulate-set}
 use Rattle.roster.specs.Numbers.{statusOf, requestOf}
-use Rattle.roster.specs.Roster.{tabulate, processIn, locationIn, linkIn, drawnIn, ranksOf, Holds}
+use Rattle.base.specs.Lists.{tabulate}
+use Rattle.roster.specs.Roster.{processIn, locationIn, linkIn, drawnIn, ranksOf, Holds}
 
 -- the numbers from `from` up to `to` are the same in both
 abbrev pub Agree : ℕ → ℕ → List ℕ → List ℕ → Type 0

@@ -15,7 +15,7 @@ use Rattle.broker.specs.declared.process.Process.{Process}
 use Rattle.broker.specs.declared.process.Vmid.{Vmid}
 use Rattle.roster.specs.Laws.Columns.{processes-kept, locations-kept, links-kept, drawn-kept, by-columns}
 use Rattle.roster.specs.Laws.Numbers.{status-zero, request-zero, link-zero}
-use Rattle.roster.specs.Laws.Tabulate.{tabulate-is}
+use Rattle.base.specs.Laws.Tabulate.{tabulate-is}
 use Rattle.roster.specs.Loaded.{withProcesses, withAllDrawn, rowOf, rowIn, Copied, Filled}
 use Rattle.roster.specs.Numbers.{vmidOf, statusOf, requestOf}
 use Rattle.roster.specs.Roster.{processIn, locationIn, linkIn, drawnIn, ranksOf, Holds}

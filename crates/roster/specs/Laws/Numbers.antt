@@ -5,7 +5,7 @@ use Prim.Native.Nat.{ℕ, _+_, _*_, _/_, _%_, _<_}
 use native.Mathlib.Omega.{arith}
 use borrow.Author.Tests.{ne-eqb}
 use Rattle.broker.specs.Names.{vmid}
-use Rattle.broker.specs.Ranks.{rank}
+use Rattle.transit.specs.Message.{rank}
 use Rattle.broker.specs.State.{apart}
 use Rattle.broker.specs.declared.process.Request.the-variants.{Absent, Posted}
 use Rattle.broker.specs.declared.process.Status.the-variants.{Unstarted, Running, Migrating, Ended}

@@ -10,7 +10,7 @@ use Rattle.broker.specs.State.{idle, apart, cell, status, request, location, li
 use Rattle.broker.specs.declared.process.Process.{Process}
 use Rattle.broker.specs.declared.process.Request.the-variants.{Absent}
 use Rattle.broker.specs.declared.process.Status.the-variants.{Unstarted}
-use Rattle.roster.specs.Laws.Tabulate.{tabulate-at, tabulate-past}
+use Rattle.base.specs.Laws.Tabulate.{tabulate-at, tabulate-past}
 use Rattle.roster.specs.Numbers.{statusOf, requestOf}
 use Rattle.roster.specs.Roster.{processIn, locationIn, linkIn, drawnIn, ranksOf}
 

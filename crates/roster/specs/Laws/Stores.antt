@@ -9,9 +9,19 @@ use Rattle.broker.specs.State.{withProcess, withStatus, withRequest, withLocati
 use Rattle.broker.specs.declared.link.Link.{Link}
 use Rattle.broker.specs.declared.process.Process.{Process}
 use Rattle.broker.specs.declared.process.Vmid.{Vmid}
-use Rattle.roster.specs.Laws.Columns.{agree-behind, agree-ahead, by-columns, column-set, standing-set, request-set}
-use Rattle.roster.specs.Laws.Columns.{processes-kept, locations-kept, links-kept, drawn-kept}
-use Rattle.roster.specs.Laws.Tabulate.{tabulate-set-past}
+use Rattle.roster.specs.Laws.Columns.{
+  agree-behind,
+  agree-ahead,
+  by-columns,
+  column-set,
+  standing-set,
+  request-set,
+  processes-kept,
+  locations-kept,
+  links-kept,
+  drawn-kept,
+}
+use Rattle.base.specs.Laws.Tabulate.{tabulate-set-past}
 use Rattle.roster.specs.Numbers.{vmidOf, statusOf, requestOf, linkOf, drawnOf}
 use Rattle.roster.specs.Roster.{processIn, locationIn, linkIn, drawnIn, ranksOf, Holds}
 

@@ -10,7 +10,7 @@ use Rattle.broker.specs.declared.link.Link.{Link}
 use Rattle.broker.specs.declared.process.Process.{Process}
 use Rattle.broker.specs.declared.process.Vmid.{Vmid}
 use Rattle.roster.specs.Laws.Loaded.{row-at, row-copied}
-use Rattle.roster.specs.Laws.Tabulate.{tabulate-long, tabulate-at, tabulate-is}
+use Rattle.base.specs.Laws.Tabulate.{tabulate-long, tabulate-at, tabulate-is}
 use Rattle.roster.specs.Loaded.{rowOf, rowIn, Copied}
 use Rattle.roster.specs.Roster.{processIn, locationIn, linkIn, drawnIn, ranksOf}
 

@@ -13,10 +13,10 @@ use Rattle.soundness.proofs.is_sound.Tie as tie
 
 -- the state, and its soundness as the three tests
 abbrev state : tie.Start → State
-state start = view (start .args .b)
+state start = view (start .args .broker)
 
 by-parts : (start : tie.Start) → sound (state start) ≡ (byRanks (state start) && byPairs (state start) && byMessages (state start))
-by-parts start = sound-by-parts (state start) (typed (start .args .b) _ (start .good .0))
+by-parts start = sound-by-parts (state start) (typed (start .args .broker) _ (start .good .0))
 
 -- that the ranks passed is known after their test
 ranks-passed : (c : tie.Else1) → byRanks (state (c .before .before .before .before .before)) ≡ true

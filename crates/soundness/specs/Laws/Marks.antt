@@ -10,9 +10,8 @@ use borrow.Author.Tests.{eqb-true, eqb-false}
 use lib.Dec.{eqb, leb, leb·suc-suc}
 use lib.ListN.{length, getD, set, replicate, getD-replicate}
 use lib.Seq.{set-getD}
-use Rattle.transit.specs.Lists.{select, every, neverFalls}
-use Rattle.transit.specs.Laws.Tests.{by-test}
-use Rattle.soundness.specs.Laws.Logic.{same-truth}
+use Rattle.base.specs.Lists.{select, every, neverFalls}
+use Rattle.base.specs.Laws.Tests.{by-test, same-truth}
 use Rattle.soundness.specs.Laws.Rising.{rises-next, rises-fits, rises-sorted, rises-of, last-same, last-other}
 use Rattle.soundness.specs.Messages.{rises}
 

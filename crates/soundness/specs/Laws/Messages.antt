@@ -8,15 +8,14 @@ use Prim.Native.Nat.{_<_}
 use native.Mathlib.Omega.{arith}
 use borrow.Author.Tests.{ltb-true}
 use lib.Dec.{eqb}
-use Rattle.transit.specs.Laws.Lists.{every-both}
-use Rattle.transit.specs.Laws.Tests.{both, both-left, both-right}
-use Rattle.transit.specs.Lists.{select, every}
-use Rattle.transit.specs.Message.{between, number}
+use Rattle.base.specs.Laws.Lists.{every-both}
+use Rattle.base.specs.Laws.Tests.{both, both-left, both-right}
+use Rattle.base.specs.Lists.{select, every}
+use Rattle.transit.specs.Message.{between, number, isRank}
 use Rattle.transit.specs.declared.Message.{Message}
 use Rattle.transit.specs.declared.Rank.{Rank}
 use Rattle.broker.specs.Laws.Sound.{isNamed}
 use Rattle.broker.specs.Laws.State.{cell-below, cell-same}
-use Rattle.broker.specs.Ranks.{isRank}
 use Rattle.broker.specs.State.{cell}
 use Rattle.broker.specs.declared.link.Link.{Link}
 use Rattle.broker.specs.declared.process.Process.{Process}

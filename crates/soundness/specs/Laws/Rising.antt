@@ -9,9 +9,9 @@ use borrow.Author.Tests.{eqb-true, eqb-false, eq-eqb, leb-true, le-leb, lt-leb}
 use lib.Dec.{eqb, leb, leb·zero}
 use lib.ListN.{length, getD, set, replicate, length-set, length-replicate, getD-replicate}
 use lib.Seq.{getD-set-same, getD-set-other}
-use Rattle.transit.specs.Lists.{select, every, neverFalls}
-use Rattle.transit.specs.Laws.Lists.{every-wider, every-always}
-use Rattle.transit.specs.Laws.Tests.{by-test, both, both-left, both-right}
+use Rattle.base.specs.Lists.{select, every, neverFalls}
+use Rattle.base.specs.Laws.Lists.{every-wider, every-always}
+use Rattle.base.specs.Laws.Tests.{by-test, both, both-left, both-right}
 use Rattle.soundness.specs.Messages.{rises}
 
 -- Numbers that never fall still do not after a number that is not above the first.

@@ -8,21 +8,18 @@ use native.Mathlib.Omega.{arith}
 use borrow.Author.Tests.{leb-true, le-leb}
 use lib.Dec.{leb}
 use lib.ListN.{length, replicate}
-use Rattle.transit.specs.Laws.Tests.{both, both-left, both-right}
-use Rattle.transit.specs.Lists.{neverFalls}
-use Rattle.transit.specs.Laws.Lists.{every-wider}
-use Rattle.transit.specs.Message.{number}
+use Rattle.base.specs.Laws.Tests.{both, both-left, both-right, AllTrue, parts, chained, same-truth}
+use Rattle.base.specs.Lists.{neverFalls}
+use Rattle.base.specs.Laws.Lists.{every-wider}
+use Rattle.transit.specs.Message.{number, rank}
 use Rattle.transit.specs.Unread.{limit}
 use Rattle.transit.specs.declared.Message.{Message}
 use Rattle.transit.specs.declared.Rank.{Rank}
-use Rattle.broker.specs.Laws.Logic.{AllTrue, parts, chained}
 use Rattle.broker.specs.Laws.Ranks.{everyRank-at, everyRank-of, everyPair-at, everyPair-of}
 use Rattle.broker.specs.Laws.Sound.{AtPairs, Shape, Names, Pairs, Mail, Facts, facts, of-facts, isNamed, hasEnds, fitsUnheeded, fitsPlace}
 use Rattle.broker.specs.Names.{numbers, isStarted, isMigrating, isLive, isClosed, isOpen, isClosing, isClear}
-use Rattle.broker.specs.Ranks.{rank}
 use Rattle.broker.specs.Sound.{sound}
 use Rattle.broker.specs.State.{State, cell, status, request, location, connection, backlog, linkAt, drawnOn, messages}
-use Rattle.soundness.specs.Laws.Logic.{same-truth}
 use Rattle.soundness.specs.Laws.Messages.{every-and, has-cell, pair-is-cell}
 use Rattle.soundness.specs.Laws.Rising.{numbersIn, rises-fits, rises-sorted, rises-of}
 use Rattle.soundness.specs.Laws.Walk.{cell-of}

@@ -5,22 +5,14 @@ use mathlib.Core.Bool.{Bool, true, false}
 use Prim.Native.Nat.{ℕ, _+_, _/_, _%_, _<_}
 use native.Mathlib.Numerals.{add-one}
 use native.Mathlib.Omega.{arith}
-use Rattle.transit.specs.Laws.Tests.{both}
+use Rattle.base.specs.Laws.Tests.{both, not-both, same-truth}
 use Rattle.transit.specs.declared.Rank.{Rank}
-use Rattle.broker.specs.Laws.Logic.{not-both}
-use Rattle.broker.specs.Laws.Ranks.{allBelow-at, allBelow-of, everyPair-at, everyPair-of}
-use Rattle.broker.specs.Ranks.{rank, allBelow, everyPair}
+use Rattle.base.specs.Laws.Below.{allBelow-at, allBelow-of}
+use Rattle.broker.specs.Laws.Ranks.{everyPair-at, everyPair-of}
+use Rattle.transit.specs.Message.{rank}
+use Rattle.broker.specs.Ranks.{everyPair}
+use Rattle.base.specs.Below.{allBelow}
 use Rattle.broker.specs.State.{cell}
-use Rattle.soundness.specs.Laws.Logic.{same-truth}
-
--- A test that passes below a number and at it passes below the next.
-pub allBelow-next : (n : ℕ) (f : ℕ → Bool) → allBelow n f ≡ true → f n ≡ true → allBelow (n + 1) f ≡ true
-allBelow-next n f below here = rw add-one (both below here)
-
--- A test that fails at a number fails below each bound past it.
-pub allBelow-fails : (n : ℕ) (f : ℕ → Bool) (k : ℕ) → k < n → f k ≡ false → allBelow n f ≡ false
-allBelow-fails n f k inside fails =
-    same-truth (allBelow n f) false (λ h. absurd (not-both (allBelow-at n f h k inside) fails)) (λ h. absurd (not-both h refl))
 
 -- Each number is the cell of its row and its column.
 pub cell-of : (k : ℕ) → cell (rank (k / 16)) (rank (k % 16)) ≡ k

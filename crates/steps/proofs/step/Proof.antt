@@ -20,7 +20,7 @@ returns c =
     let loaded = c .before in
     let args = loaded .before .before .before .before .before .args in
     let failed = sym (loaded .load .ensures .tells) ∙ not-true _ (c .if1 .taken) in
-    (unsound-step (view (args .b)) (args .log .now) (args .at) failed, λ n e. refl)
+    (unsound-step (view (args .broker)) (args .log .now) (args .at) failed, λ n e. refl)
 
 step-in-place-requires : tie.Need-step-in-place-requires
 step-in-place-requires c κs =
@@ -44,9 +44,9 @@ returns-2 c =
     let args = loaded .before .before .before .before .before .args in
     let passed = not-false _ (test .if1 .left) in
     let stepped =
-    stepped-in-place (view (args .b)) (sym (loaded .load .ensures .tells) ∙ passed) (loaded .load .ensures .holds passed)
+    stepped-in-place (view (args .broker)) (sym (loaded .load .ensures .tells) ∙ passed) (loaded .load .ensures .holds passed)
     (step .step-in-place .ensures) in
-    (refused-step (view (args .b)) (args .log .now) (args .at) _ _ (c .enum-told .given .1) stepped, λ n e. refl)
+    (refused-step (view (args .broker)) (args .log .now) (args .at) _ _ (c .enum-told .given .1) stepped, λ n e. refl)
 
 returns-3 : tie.Need-returns-3
 returns-3 c =
@@ -57,9 +57,9 @@ returns-3 c =
     let args = loaded .before .before .before .before .before .args in
     let passed = not-false _ (test .if1 .left) in
     let stepped =
-    stepped-in-place (view (args .b)) (sym (loaded .load .ensures .tells) ∙ passed) (loaded .load .ensures .holds passed)
+    stepped-in-place (view (args .broker)) (sym (loaded .load .ensures .tells) ∙ passed) (loaded .load .ensures .holds passed)
     (step .step-in-place .ensures) in (
-      subst (λ (s : State). Stepped (view (args .b)) (args .log .now) (args .at) (replied (step .step-in-place .result) s))
+      subst (λ (s : State). Stepped (view (args .broker)) (args .log .now) (args .at) (replied (step .step-in-place .result) s))
           (sym (c .unload .ensures)) stepped,
       accepted-is-no-refusal (step .step-in-place .result .answer) _ _ _ _ _ (told .enum-told2 .given .1),
     )

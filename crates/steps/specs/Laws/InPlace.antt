@@ -4,15 +4,14 @@ use mathlib.Core.Bool.{Bool, true, false, not, _&&_}
 use mathlib.Core.List.{List}
 use Prim.Native.Nat.{ℕ}
 use lib.ListN.{length}
-use Rattle.transit.specs.Laws.Lists.{every-wider}
-use Rattle.transit.specs.Lists.{every}
+use Rattle.base.specs.Laws.Lists.{every-wider}
+use Rattle.base.specs.Lists.{every}
 use Rattle.transit.specs.Mail.{messagesIn, unreadIn}
-use Rattle.transit.specs.Message.{sameRank}
+use Rattle.transit.specs.Message.{sameRank, isRank}
 use Rattle.transit.specs.Slots.{ranked}
 use Rattle.transit.specs.Unread.{Unread, nothing}
 use Rattle.transit.specs.declared.Message.{Message}
 use Rattle.broker.specs.Laws.Sound.{facts}
-use Rattle.broker.specs.Ranks.{isRank}
 use Rattle.broker.specs.Sound.{sound}
 use Rattle.broker.specs.State.{State, messages, withUnread}
 use Rattle.broker.specs.Step.{Stepped}

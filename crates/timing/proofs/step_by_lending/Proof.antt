@@ -19,8 +19,37 @@ use prog.Wp.{Heap, Calls, Loops, WpFn, Tables}
 use ghost.Atoms.{Atoms, sem}
 use contract.Monad.{Fun, fact}
 use contract.Running.{givenOf, tables, tablesOf}
-use types.Kit.{Given, ‵, raw, _⊛_, ⋆, some, later, _$_, _∵_, !, qed, by, move, keep, drop, use1, use2, split, join, pick, fsplit, fjoin}
-use types.Kit.{suffices, frame, await, updating, now as at-once, show, done}
+use types.Kit.{
+  Given,
+  ‵,
+  raw,
+  _⊛_,
+  ⋆,
+  some,
+  later,
+  _$_,
+  _∵_,
+  !,
+  qed,
+  by,
+  move,
+  keep,
+  drop,
+  use1,
+  use2,
+  split,
+  join,
+  pick,
+  fsplit,
+  fjoin,
+  suffices,
+  frame,
+  await,
+  updating,
+  now as at-once,
+  show,
+  done,
+}
 use sound.WpLaws.{FmC, fmOf, WpFn-mono}
 use denote.RattleType.{owns}
 use denote.Laws.{Is, shows}
@@ -37,8 +66,20 @@ use denote.Triple.Clauses.{ensured, lasts}
 use denote.Triple.Entry.{onEntry}
 use denote.Triple.Spec.{Meets, tripleOf}
 use denote.Triple.Table.{entered, cited}
-use denote.Triple.Walked.{says, Stays, stay-none, stay-none-slice, walkOf, AllGo, goes-none, goes-none-slice, Walks, ends-at, walked}
-use denote.Triple.Walked.{walk-meets}
+use denote.Triple.Walked.{
+  says,
+  Stays,
+  stay-none,
+  stay-none-slice,
+  walkOf,
+  AllGo,
+  goes-none,
+  goes-none-slice,
+  Walks,
+  ends-at,
+  walked,
+  walk-meets,
+}
 use denote.Exit.{yes}
 use Rattle.broker.specs.State.{view}
 use Rattle.broker.specs.Step.{Stepped}

@@ -23,7 +23,7 @@ use Rattle.transit.specs.Columns.{
   TAIL,
   UNREAD,
 }
-use Rattle.transit.specs.Lists.{tally}
+use Rattle.base.specs.Lists.{tally}
 use Rattle.transit.specs.Mail.{messagesIn, Mail, Appended}
 use Rattle.transit.specs.Message.{between, placeNumber}
 use Rattle.transit.specs.Slots.{pairOf}
@@ -48,10 +48,10 @@ use Rattle.transit.specs.Laws.Columns.{
 use Rattle.transit.specs.Laws.Links.{read-by, count-bounded}
 use Rattle.transit.specs.Laws.Mail.{count-in}
 use Rattle.transit.specs.Laws.Messages.{pair-small, put-messages}
-use Rattle.transit.specs.Laws.Lists.{tally-append}
+use Rattle.base.specs.Laws.Lists.{tally-append}
 use Rattle.transit.specs.Laws.Order.{place-below-four}
 use Rattle.transit.specs.Laws.Put.{filled, Joined, joined-first, joined-behind, last-inside, put-index}
-use Rattle.transit.specs.Laws.Tests.{both}
+use Rattle.base.specs.Laws.Tests.{both}
 
 -- a message can be put at the tail: p is the number of its pair, n that of its place
 pub record Room (s v : List ℕ) (m : Message) (p n : ℕ) : Type 0 where

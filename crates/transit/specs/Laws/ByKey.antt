@@ -7,9 +7,9 @@ use Prim.Native.Nat.{ℕ, zero, suc, _+_, _<_, _≤_}
 use native.Mathlib.Omega.{arith}
 use borrow.Author.Tests.{ne-eqb, eqb-true, eqb-false, leb-true, ltb-true}
 use lib.Dec.{eqb, leb, ltb}
-use Rattle.transit.specs.Lists.{select, tally, without, every, neverFalls}
-use Rattle.transit.specs.Laws.Tests.{by-test, both-left, both-right}
-use Rattle.transit.specs.Laws.Lists.{select-none, every-selected, every-wider, every-map, without-head, without-other}
+use Rattle.base.specs.Lists.{select, tally, without, every, neverFalls}
+use Rattle.base.specs.Laws.Tests.{by-test, both-left, both-right}
+use Rattle.base.specs.Laws.Lists.{select-none, every-selected, every-wider, every-map, without-head, without-other}
 
 module _ {A : Type 0} (k : A → ℕ) where
   -- the element has the key

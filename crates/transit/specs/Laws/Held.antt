@@ -12,9 +12,9 @@ use lib.Dec.{ltb}
 use lib.ListN.{length, getD, set, take, drop, length-append, length-drop, take-append-drop}
 use lib.Seq.{take-suc, getD-drop, length-take-le}
 use Rattle.transit.specs.Index.{Dead}
-use Rattle.transit.specs.Lists.{select, without, changeFirst}
+use Rattle.base.specs.Lists.{select, without, changeFirst}
 use Rattle.transit.specs.Slots.{held}
-use Rattle.transit.specs.Laws.Tests.{by-test}
+use Rattle.base.specs.Laws.Tests.{by-test}
 
 module _ {A : Type 0} where
   -- Dead slots hold nothing.

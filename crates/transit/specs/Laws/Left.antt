@@ -6,7 +6,7 @@ use Prim.Native.Nat.{ℕ, _+_, _-_, _<_, _≤_}
 use native.Mathlib.Omega.{arith}
 use lib.ListN.{length, getD, set, length-set}
 use Rattle.transit.specs.Columns.{columnsOf, NEXT, FIRST, COUNT, UNREAD}
-use Rattle.transit.specs.Lists.{tally, without}
+use Rattle.base.specs.Lists.{tally, without}
 use Rattle.transit.specs.Mail.{messagesIn, Mail, Left}
 use Rattle.transit.specs.Message.{between}
 use Rattle.transit.specs.Slots.{pairOf}
@@ -23,7 +23,7 @@ use Rattle.transit.specs.Laws.Columns.{
   unread-is,
 }
 use Rattle.transit.specs.Laws.Links.{read-by, first-some}
-use Rattle.transit.specs.Laws.Lists.{tally-bounded, length-without, tally-without}
+use Rattle.base.specs.Laws.Lists.{tally-bounded, length-without, tally-without}
 use Rattle.transit.specs.Laws.Mail.{count-in}
 use Rattle.transit.specs.Laws.Messages.{pair-small, take-messages, take-found}
 use Rattle.transit.specs.Laws.Take.{front, taken, take-index}

@@ -12,8 +12,8 @@ use lib.ListN.{length, getD, set}
 use lib.Seq.{getD-set-same, getD-set-other}
 use Rattle.transit.specs.Columns.{Columns, withPlaces}
 use Rattle.transit.specs.Index.{Next, slotsOf, Index, Sizes}
-use Rattle.transit.specs.Laws.Lists.{tally-bounded}
-use Rattle.transit.specs.Laws.Tests.{by-test}
+use Rattle.base.specs.Laws.Lists.{tally-bounded}
+use Rattle.base.specs.Laws.Tests.{by-test}
 
 -- 1 where a slot is of the pair
 abbrev one : ℕ → ℕ → ℕ

@@ -15,7 +15,7 @@ use Rattle.transit.specs.Slots.{messageAt}
 use Rattle.transit.specs.Laws.Columns.{column-sizes, pair-at, first-at, count-at, tail-is, unread-is}
 use Rattle.transit.specs.Laws.Held.{held-dead}
 use Rattle.transit.specs.Laws.Links.{index-none}
-use Rattle.transit.specs.Laws.Tests.{by-test}
+use Rattle.base.specs.Laws.Tests.{by-test}
 
 -- n numbers from an offset on are x
 abbrev pub Filled : List ℕ → ℕ → ℕ → ℕ → Type 0

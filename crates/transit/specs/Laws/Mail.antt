@@ -9,16 +9,16 @@ use borrow.Author.Tests.{ne-eqb, ltb-true}
 use lib.Dec.{ltb}
 use lib.ListN.{length, getD}
 use Rattle.transit.specs.Columns.{columnsOf, COUNT, UNREAD}
-use Rattle.transit.specs.Lists.{select, tally, every}
+use Rattle.base.specs.Lists.{select, tally, every}
 use Rattle.transit.specs.Mail.{messagesIn, Mail}
 use Rattle.transit.specs.Message.{sameRank, to, between}
 use Rattle.transit.specs.Slots.{pairOf, ranked}
 use Rattle.transit.specs.declared.Message.{Message}
 use Rattle.transit.specs.declared.Rank.{Rank}
 use Rattle.transit.specs.Laws.Columns.{count-at, unread-is}
-use Rattle.transit.specs.Laws.Lists.{every-wider, select-none}
+use Rattle.base.specs.Laws.Lists.{every-wider, select-none}
 use Rattle.transit.specs.Laws.Messages.{held-ranked, pair-small, count-messages}
-use Rattle.transit.specs.Laws.Tests.{by-test, both-left, both-right}
+use Rattle.base.specs.Laws.Tests.{by-test, both-left, both-right}
 
 -- Both ranks of each message are below sixteen.
 pub ranked-in : (s v : List ℕ) → every ranked (messagesIn s v) ≡ true

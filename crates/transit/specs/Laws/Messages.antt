@@ -12,17 +12,17 @@ use lib.ListN.{length, getD, set}
 use lib.Seq.{getD-set-same, getD-set-other}
 use Rattle.transit.specs.Columns.{Columns}
 use Rattle.transit.specs.Index.{slotsOf, Index, Sizes}
-use Rattle.transit.specs.Lists.{select, tally, without, every}
+use Rattle.base.specs.Lists.{select, tally, without, every}
 use Rattle.transit.specs.Message.{between, placeNumber}
 use Rattle.transit.specs.Slots.{held, pairOf, placeOf, messageOf, messageAt, messagesOf, ranked}
 use Rattle.transit.specs.declared.Message.{Message}
 use Rattle.transit.specs.declared.Place.{Place}
-use Rattle.transit.specs.declared.Place.the-variants.{SourceList, SourceChannel, List as EndList, Channel}
+use Rattle.transit.specs.declared.Place.the-variants.{SourceList, SourceChannel, EndList, Channel}
 use Rattle.transit.specs.declared.Rank.{Rank}
 use Rattle.transit.specs.Laws.Held.{held-put, held-first, held-without}
 use Rattle.transit.specs.Laws.Put.{filled}
 use Rattle.transit.specs.Laws.Take.{front, taken}
-use Rattle.transit.specs.Laws.Tests.{by-test}
+use Rattle.base.specs.Laws.Tests.{by-test}
 
 -- A place is the place of its number.
 pub place-back : (p : Place) → placeOf (placeNumber p) ≡ p

@@ -9,7 +9,7 @@ use borrow.Author.Tests.{eqb-true, eqb-false, eq-eqb, ne-eqb}
 use lib.Dec.{eqb}
 use lib.ListN.{getD}
 use Rattle.transit.specs.Columns.{Columns, columnsOf}
-use Rattle.transit.specs.Lists.{select}
+use Rattle.base.specs.Lists.{select}
 use Rattle.transit.specs.Mail.{messagesIn, Mail}
 use Rattle.transit.specs.Message.{picks}
 use Rattle.transit.specs.Search.{Oldest}
@@ -20,7 +20,7 @@ use Rattle.transit.specs.declared.Rank.{Rank}
 use Rattle.transit.specs.declared.Selection.the-variants.{To}
 use Rattle.transit.specs.Laws.Columns.{column-sizes}
 use Rattle.transit.specs.Laws.Held.{held-first, held-none}
-use Rattle.transit.specs.Laws.Tests.{by-test}
+use Rattle.base.specs.Laws.Tests.{by-test}
 
 module _ (c : Columns) (r : ℕ) where
   -- Of no pair there is none.

@@ -8,14 +8,14 @@ use native.Mathlib.Omega.{arith}
 use borrow.Author.Tests.{lt-ltb, ne-eqb}
 use lib.Dec.{leb, ltb}
 use lib.ListN.{length, length-append}
-use Rattle.transit.specs.Lists.{select, tally, without, every, neverFalls}
+use Rattle.base.specs.Lists.{select, tally, without, every, neverFalls}
 use Rattle.transit.specs.Message.{placeNumber, number, samePlace, at, picks, byPlace, placeOrder}
 use Rattle.transit.specs.declared.Message.{Message}
 use Rattle.transit.specs.declared.Place.{Place}
-use Rattle.transit.specs.declared.Place.the-variants.{SourceList, SourceChannel, List as EndList, Channel}
+use Rattle.transit.specs.declared.Place.the-variants.{SourceList, SourceChannel, EndList, Channel}
 use Rattle.transit.specs.declared.Selection.{Selection}
-use Rattle.transit.specs.Laws.Tests.{by-test, both, both-left, both-right}
-use Rattle.transit.specs.Laws.Lists.{select-select, every-append, every-map, every-without, every-both, every-always}
+use Rattle.base.specs.Laws.Tests.{by-test, both, both-left, both-right}
+use Rattle.base.specs.Laws.Lists.{select-select, every-append, every-map, every-without, every-both, every-always}
 use Rattle.transit.specs.Laws.ByKey.{hasKey, byKey, byKey-sorted}
 
 -- There are four places.

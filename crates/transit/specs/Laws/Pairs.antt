@@ -8,7 +8,7 @@ use native.Mathlib.Omega.{arith}
 use borrow.Author.Tests.{eq-eqb, eqb-true}
 use lib.Dec.{eqb}
 use lib.ListN.{length, length-append, length-map}
-use Rattle.transit.specs.Lists.{select, changeEach, every, neverFalls}
+use Rattle.base.specs.Lists.{select, changeEach, every, neverFalls}
 use Rattle.transit.specs.Message.{placeNumber, number, sameRank, at, to, between, relabelled, picks, placeOrder}
 use Rattle.transit.specs.Unread.{eachTo, firstTo, takeOut}
 use Rattle.transit.specs.declared.Message.{Message}
@@ -16,8 +16,8 @@ use Rattle.transit.specs.declared.Place.{Place}
 use Rattle.transit.specs.declared.Rank.{Rank}
 use Rattle.transit.specs.declared.Selection.{Selection}
 use Rattle.transit.specs.declared.Selection.the-variants.{ToAt, Between, BetweenAt}
-use Rattle.transit.specs.Laws.Tests.{by-test, both, both-left, both-right}
-use Rattle.transit.specs.Laws.Lists.{
+use Rattle.base.specs.Laws.Tests.{by-test, both, both-left, both-right}
+use Rattle.base.specs.Laws.Lists.{
   select-append,
   without-other,
   without-same,

@@ -11,7 +11,7 @@ use lib.Dec.{eqb, leb, ltb}
 use lib.ListN.{length, getD, set, take, length-set, length-map}
 use lib.Seq.{getD-set-same, getD-set-other, take-all}
 use Rattle.transit.specs.Columns.{Columns, columnsOf, PLACES}
-use Rattle.transit.specs.Lists.{tally, changeEach}
+use Rattle.base.specs.Lists.{tally, changeEach}
 use Rattle.transit.specs.Mail.{messagesIn, Mail, Relabelled}
 use Rattle.transit.specs.Message.{placeNumber, picks, relabelled}
 use Rattle.transit.specs.Pick.{picked, hits, Passed}
@@ -23,10 +23,10 @@ use Rattle.transit.specs.declared.pick.Pick.{Pick}
 use Rattle.transit.specs.Laws.Columns.{column-sizes, store-place, pair-at, place-at}
 use Rattle.transit.specs.Laws.Held.{held-map, held-live, held-gone}
 use Rattle.transit.specs.Laws.Links.{index-places}
-use Rattle.transit.specs.Laws.Lists.{tally-append}
+use Rattle.base.specs.Laws.Lists.{tally-append}
 use Rattle.transit.specs.Laws.Messages.{place-back}
 use Rattle.transit.specs.Laws.Order.{place-below-four}
-use Rattle.transit.specs.Laws.Tests.{by-test}
+use Rattle.base.specs.Laws.Tests.{by-test}
 
 -- A slot counts once at most.
 pub one-at-most : (b : Bool) → cond b 1 0 ≤ 1

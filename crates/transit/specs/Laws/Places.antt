@@ -14,7 +14,7 @@ use Rattle.transit.specs.declared.Rank.{Rank}
 use Rattle.transit.specs.declared.Selection.the-variants.{ToAt, BetweenAt}
 use Rattle.transit.specs.declared.pick.Pick.{Pick}
 use Rattle.transit.specs.Laws.Messages.{between-pair}
-use Rattle.transit.specs.Laws.Tests.{by-test}
+use Rattle.base.specs.Laws.Tests.{by-test}
 
 -- A number below four is that of its place.
 number-back : (n : ℕ) → n < 4 → placeNumber (placeOf n) ≡ n

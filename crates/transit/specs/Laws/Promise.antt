@@ -6,10 +6,10 @@ use mathlib.Core.List.{List, [], _∷_, _++_, map}
 use Prim.Native.Nat.{ℕ, _+_, _<_}
 use native.Mathlib.Omega.{arith}
 use lib.ListN.{length, length-append, length-map}
-use Rattle.transit.specs.Laws.Lists.{length-changeFirst}
+use Rattle.base.specs.Laws.Lists.{length-changeFirst}
 use Rattle.transit.specs.Laws.Operations.{appends, relabels, relabels-first}
 use Rattle.transit.specs.Laws.Removed.{removed-sent-first}
-use Rattle.transit.specs.Lists.{select, tally, without, neverFalls}
+use Rattle.base.specs.Lists.{select, tally, without, neverFalls}
 use Rattle.transit.specs.Mail.{messagesIn, unreadIn, Appended, Left, Relabelled, FirstRelabelled}
 use Rattle.transit.specs.Message.{number, between, picks, relabelled}
 use Rattle.transit.specs.Unread.{Unread, limit, counted, head, appended, removed, relabelAll, relabelFirst}

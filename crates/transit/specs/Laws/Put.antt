@@ -12,7 +12,7 @@ use lib.Seq.{getD-set-same, getD-set-other, lt-length-set}
 use Rattle.transit.specs.Columns.{Columns}
 use Rattle.transit.specs.Index.{Next, Last, slotsOf, Index, Sizes}
 use Rattle.transit.specs.Laws.Links.{slots-set, next-other, slots-other}
-use Rattle.transit.specs.Laws.Tests.{by-test}
+use Rattle.base.specs.Laws.Tests.{by-test}
 
 -- the columns with a slot of the pair at the tail: its place, the links and the firsts as given
 abbrev pub filled : Columns → ℕ → List ℕ → List ℕ → List ℕ → Columns

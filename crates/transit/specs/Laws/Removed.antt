@@ -4,7 +4,7 @@ use mathlib.Core.Path.{_≡_, refl, ap, _∙_}
 use mathlib.Core.Bool.{Bool, true, _&&_}
 use mathlib.Core.List.{List, [], _∷_, map, head-eq-of-cons-eq}
 use borrow.Author.Tests.{eq-eqb}
-use Rattle.transit.specs.Lists.{select, without, neverFalls}
+use Rattle.base.specs.Lists.{select, without, neverFalls}
 use Rattle.transit.specs.Message.{number, at, picks, placeOrder}
 use Rattle.transit.specs.Unread.{Unread, AfterRemove, head, leave, removed, counted}
 use Rattle.transit.specs.declared.Found.{Found}
@@ -12,7 +12,7 @@ use Rattle.transit.specs.declared.Found.the-variants.{First, Nothing}
 use Rattle.transit.specs.declared.Message.{Message}
 use Rattle.transit.specs.declared.Selection.{Selection}
 use Rattle.transit.specs.Laws.Order.{place-order-is-list-order}
-use Rattle.transit.specs.Laws.Tests.{by-test}
+use Rattle.base.specs.Laws.Tests.{by-test}
 
 -- A narrower test that the first to pass also passes leaves out the same element.
 pub without-narrower : {A : Type 0} (p q : A → Bool) (l : List A) (x : A) (rest : List A) → select p l ≡ x ∷ rest → q x ≡ true

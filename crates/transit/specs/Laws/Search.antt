@@ -12,7 +12,7 @@ use lib.ListN.{length, getD, set, length-set}
 use lib.Seq.{getD-set-same, getD-set-other}
 use Rattle.transit.specs.Columns.{Columns, columnsOf, withPlaces, PLACES}
 use Rattle.transit.specs.Index.{Index}
-use Rattle.transit.specs.Lists.{select}
+use Rattle.base.specs.Lists.{select}
 use Rattle.transit.specs.Mail.{messagesIn, Mail, FirstRelabelled}
 use Rattle.transit.specs.Message.{placeNumber, picks, relabelled}
 use Rattle.transit.specs.Search.{Walked, Reached}
@@ -25,11 +25,11 @@ use Rattle.transit.specs.declared.Selection.the-variants.{BetweenAt}
 use Rattle.transit.specs.Laws.Columns.{column-sizes, store-place}
 use Rattle.transit.specs.Laws.Held.{held-first, held-changed, held-none}
 use Rattle.transit.specs.Laws.Links.{read-by, index-places}
-use Rattle.transit.specs.Laws.Lists.{length-changeFirst, changeFirst-unmet}
+use Rattle.base.specs.Laws.Lists.{length-changeFirst, changeFirst-unmet}
 use Rattle.transit.specs.Laws.Messages.{pair-small, place-back}
 use Rattle.transit.specs.Laws.Order.{place-below-four}
 use Rattle.transit.specs.Laws.Places.{picks-pair}
-use Rattle.transit.specs.Laws.Tests.{by-test}
+use Rattle.base.specs.Laws.Tests.{by-test}
 
 module _ {c : Columns} (x : Index c) (p n : ℕ) (small : p < 256) where
   -- A walk begins at the pair's first slot.

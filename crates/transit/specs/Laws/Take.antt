@@ -11,7 +11,7 @@ use lib.Seq.{getD-set-same, getD-set-other}
 use Rattle.transit.specs.Columns.{Columns}
 use Rattle.transit.specs.Index.{Next, Last, slotsOf, Index, Sizes}
 use Rattle.transit.specs.Laws.Links.{slots-set, read-by, next-other, slots-other}
-use Rattle.transit.specs.Laws.Tests.{by-test}
+use Rattle.base.specs.Laws.Tests.{by-test}
 
 -- the first slot of a pair
 abbrev pub front : Columns → ℕ → ℕ

@@ -5,26 +5,42 @@ use mathlib.Core.List.{List, [], _∷_}
 use Prim.Native.Nat.{ℕ, _+_, _<_}
 use borrow.Author.Tests.{not-true, not-false}
 use lib.ListN.{length, length-set, set}
-use Rattle.transit.specs.Laws.Tests.{both, both-left, both-right}
+use Rattle.base.specs.Laws.Tests.{both, both-left, both-right, not-both, parts}
 use Rattle.transit.specs.Message.{sameRank}
 use Rattle.transit.specs.declared.Rank.{Rank}
-use Rattle.broker.specs.Connect.{connect, call, route, part, routeToEnded, routeThere, routeOn, withdraw, connectBoth}
+use Rattle.broker.specs.State.{
+  connect,
+  nextVmid,
+  draw,
+  await,
+  State,
+  cell,
+  linkAt,
+  status,
+  request,
+  location,
+  connection,
+  backlog,
+  messages,
+  withRequest,
+  withLocations,
+  withLinks,
+}
+use Rattle.broker.specs.Connect.{call, route, part, routeToEnded, routeThere, routeOn, withdraw, connectBoth}
 use Rattle.broker.specs.Laws.Accepted.{StartFits, CallFits, RouteFits, MoveFits, HeedFits, DrainFits, LandFits, PartFits, EndFits, started-of-running}
 use Rattle.broker.specs.Laws.Changes.{standAs, connectAs, awaitAs, askAs, same, anyPair, byRole, idling, starting, calling, withdrawing, joining, joined, leftLine, facedLine, moving, heeding, clearing, landing, parting, ending}
 use Rattle.broker.specs.Laws.Effect.{Effect, roleOf, roleBetween, roleOf-turned, roleBetween-turned, sameRank-turned, not-twice, exclusive}
 use Rattle.broker.specs.Laws.Fit.{nothingWith, lives-as, runs-as, migrates-as, started-as}
 use Rattle.broker.specs.Laws.Leaving.{leftBy, facedBy, leaveAll-at, leaveAll-self}
 use Rattle.broker.specs.Laws.Links.{connect-long, await-long, connect-connection, connect-backlog, await-connection, await-backlog}
-use Rattle.broker.specs.Laws.Logic.{not-both, parts}
 use Rattle.broker.specs.Laws.Sound.{AtRanks, Facts, Pairs}
 use Rattle.broker.specs.Laws.State.{sameRank-eq, sameRank-self, sameRank-joins, status-with, request-with, status-with-request, request-with-status}
 use Rattle.broker.specs.Laws.View.{Standing, unstarted, running, migrating, ended, standing, hasStarted, runs, migrates, lives, Side, side, Role, forward, backward, outside, turn, Change}
-use Rattle.broker.specs.Life.{start, end, nextVmid, draw}
-use Rattle.broker.specs.Migrate.{move, heed, land, await, leaveAll, afterMove}
+use Rattle.broker.specs.Life.{start, end}
+use Rattle.broker.specs.Migrate.{move, heed, land, leaveAll, afterMove}
 use Rattle.broker.specs.Names.{isStarted, isRunning, isMigrating, isEnded, isLive, endpoint, isOpenRequest, asksFor, isClosed, isOpen, isClosing, isClear, isUnheeded}
-use Rattle.broker.specs.State.{State, cell, linkAt, status, request, location, connection, backlog, messages, withRequest, withLocations, withLinks}
 use Rattle.broker.specs.declared.link.Backlog.{Backlog}
-use Rattle.broker.specs.declared.link.Backlog.the-variants.{Clear, Open as Unheeded, Marked}
+use Rattle.broker.specs.declared.link.Backlog.the-variants.{Clear, Unheeded, Marked}
 use Rattle.broker.specs.declared.link.Connection.{Connection}
 use Rattle.broker.specs.declared.link.Connection.the-variants.{Closed, Open, Closing}
 use Rattle.broker.specs.declared.link.Link.{Link}

@@ -8,28 +8,42 @@ use native.Mathlib.Omega.{arith}
 use borrow.Author.Tests.{lt-ltb}
 use lib.Dec.{eqb}
 use lib.ListN.{getD, set}
-use Rattle.transit.specs.Laws.Tests.{both, both-right}
-use Rattle.transit.specs.Lists.{every}
-use Rattle.transit.specs.Laws.Lists.{every-wider}
-use Rattle.transit.specs.Message.{sameRank}
+use Rattle.base.specs.Laws.Tests.{both, both-right, chosen, first-wider}
+use Rattle.base.specs.Lists.{every}
+use Rattle.base.specs.Laws.Lists.{every-wider}
+use Rattle.transit.specs.Message.{sameRank, isRank}
 use Rattle.transit.specs.Unread.{Unread}
 use Rattle.transit.specs.declared.Rank.{Rank}
 use Rattle.broker.specs.Connect.{call, route, part, withdraw}
 use Rattle.broker.specs.Laws.Accepted.{StartFits, CallFits, RouteFits, MoveFits, LandFits, EndFits, start-fits, call-fits, route-fits, move-fits, land-fits, end-fits, running-not-ended, migrating-not-ended}
-use Rattle.broker.specs.Laws.Cases.{chosen, chosen-at, first-wider, route-cases, drain-cases}
+use Rattle.broker.specs.Laws.Cases.{chosen-at, route-cases, drain-cases}
 use Rattle.broker.specs.Laws.Checks.{Passes}
-use Rattle.broker.specs.Laws.Each.{long-set, announced-own, announced-other}
+use Rattle.base.specs.Laws.Stores.{long-set}
+use Rattle.broker.specs.Laws.Each.{announced-own, announced-other}
 use Rattle.broker.specs.Laws.Kept.Shape.{shape-with-locations, shape-with-drawn, shape-connect, shape-withdraw}
 use Rattle.broker.specs.Laws.Names.{eqb-swap, sameVmid-swap, noneShared-swap, next-apart, drawn-after, still-drawn, next-drawn, endpoint-in, processes-in, processes-all, ofCall-wider}
 use Rattle.broker.specs.Laws.Sound.{Shape, Names, Facts}
 use Rattle.broker.specs.Laws.State.{sameRank-eq, sameRank-self, cell-set, status-with, request-with-status, request-with, status-with-request}
-use Rattle.broker.specs.Life.{nextVmid, draw, announced, start, end}
+use Rattle.broker.specs.State.{
+  nextVmid,
+  draw,
+  State,
+  cell,
+  status,
+  request,
+  location,
+  drawnOn,
+  withStatus,
+  withRequest,
+  withLocations,
+  withLinks,
+  withUnread,
+}
+use Rattle.broker.specs.Life.{announced, start, end}
 use Rattle.broker.specs.Messages.{send, take, look}
 use Rattle.broker.specs.Migrate.{move, heed, land}
 use Rattle.broker.specs.Names.{numbers, unknown, sameVmid, isStarted, isEnded, endpoint, processesOf, vmidsOf, asksFor}
-use Rattle.broker.specs.Ranks.{isRank}
 use Rattle.broker.specs.Sound.{isDrawn, ofCall, noneShared, distinct}
-use Rattle.broker.specs.State.{State, cell, status, request, location, drawnOn, withStatus, withRequest, withLocations, withLinks, withUnread}
 use Rattle.broker.specs.Step.{apply}
 use Rattle.broker.specs.declared.link.Connection.the-variants.{Open}
 use Rattle.broker.specs.declared.link.Link.{Link}

@@ -8,33 +8,47 @@ use native.Mathlib.Omega.{arith}
 use borrow.Author.Tests.{lt-ltb, ltb-true, le-leb, lt-leb, leb-true, eqb-true, eqb-false}
 use lib.Dec.{eqb, leb}
 use lib.ListN.{length, length-map}
-use Rattle.transit.specs.Lists.{select, every, without, changeEach, neverFalls}
-use Rattle.transit.specs.Message.{placeNumber, number, samePlace, sameRank, at, to, between, relabelled, placeOrder}
+use Rattle.base.specs.Lists.{select, every, without, changeEach, neverFalls}
+use Rattle.transit.specs.Message.{placeNumber, number, samePlace, sameRank, at, to, between, relabelled, placeOrder, isRank}
 use Rattle.transit.specs.Unread.{Unread, limit, counted, appended, head, firstSent, eachTo, relabelAll, relabelFirst, leave}
-use Rattle.transit.specs.Laws.Lists.{every-always, every-both, every-wider, every-append, every-map, every-without, every-changeEach, every-changeFirst, every-selected, without-other, without-same, changeEach-keeps, map-follows, changeFirst-same, changeFirst-other}
+use Rattle.base.specs.Laws.Lists.{
+  every-always,
+  every-both,
+  every-wider,
+  every-append,
+  every-map,
+  every-without,
+  every-changeEach,
+  every-changeFirst,
+  every-selected,
+  without-other,
+  without-same,
+  changeEach-keeps,
+  map-follows,
+  changeFirst-same,
+  changeFirst-other,
+}
 use Rattle.transit.specs.Laws.Order.{place-below-four, neverFalls-append, neverFalls-map, neverFalls-without}
 use Rattle.transit.specs.Laws.Operations.{appends, relabels, relabels-first, removes}
 use Rattle.transit.specs.Laws.Pairs.{places, append-length, append-places, append-keeps-places, firstTo-length}
-use Rattle.transit.specs.Laws.Tests.{by-test, both, both-left, both-right}
+use Rattle.base.specs.Laws.Tests.{by-test, both, both-left, both-right, or-right}
 use Rattle.transit.specs.declared.Found.{Found}
 use Rattle.transit.specs.declared.Found.the-variants.{First, Nothing}
 use Rattle.transit.specs.declared.Message.{Message}
 use Rattle.transit.specs.declared.Place.{Place}
-use Rattle.transit.specs.declared.Place.the-variants.{SourceList, SourceChannel, List as EndList, Channel}
+use Rattle.transit.specs.declared.Place.the-variants.{SourceList, SourceChannel, EndList, Channel}
 use Rattle.transit.specs.declared.Rank.{Rank}
 use Rattle.transit.specs.declared.Selection.the-variants.{ToAt, Between, BetweenAt}
 use Rattle.broker.specs.Connect.{call, connectBoth, withdraw, route, onChannel, part}
 use Rattle.broker.specs.Laws.Accepted.{running-not-migrating, Two, SendFits, send-fits, move-fits, land-fits}
 use Rattle.broker.specs.Laws.Checks.{Passes}
-use Rattle.broker.specs.Laws.Logic.{or-right}
-use Rattle.broker.specs.Laws.Rising.{every-chosen, without-shorter, neverFalls-changeFirst}
+use Rattle.base.specs.Laws.Rising.{every-chosen, without-shorter, neverFalls-changeFirst}
 use Rattle.broker.specs.Laws.Sound.{AtPairs, Facts, isNamed, fitsUnheeded, fitsPlace}
 use Rattle.broker.specs.Laws.State.{sameRank-eq}
 use Rattle.broker.specs.Life.{start, end}
 use Rattle.broker.specs.Messages.{placeOver, sentMessage, send, take, look}
 use Rattle.broker.specs.Migrate.{leftBehind, move, heed, onSourceChannel, drainFound, drain, land}
 use Rattle.broker.specs.Names.{isRunning, isMigrating, isEnded, endpoint, asksFor, postedTo, sameVmid, isClosed, isClear, isUnheeded}
-use Rattle.broker.specs.Ranks.{isRank}
 use Rattle.broker.specs.State.{State, status, request, connection, backlog, messages}
 use Rattle.broker.specs.Step.{apply}
 use Rattle.broker.specs.declared.link.Connection.{Connection}

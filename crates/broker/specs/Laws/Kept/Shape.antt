@@ -7,8 +7,10 @@ use lib.ListN.{length, length-set}
 use Rattle.transit.specs.Unread.{Unread}
 use Rattle.transit.specs.declared.Rank.{Rank}
 use Rattle.broker.specs.Connect.{call, part, connectBoth, withdraw}
-use Rattle.broker.specs.Laws.Cases.{chosen, route-cases, drain-cases}
-use Rattle.broker.specs.Laws.Each.{long-set, announced-long}
+use Rattle.base.specs.Laws.Tests.{chosen}
+use Rattle.broker.specs.Laws.Cases.{route-cases, drain-cases}
+use Rattle.base.specs.Laws.Stores.{long-set}
+use Rattle.broker.specs.Laws.Each.{announced-long}
 use Rattle.broker.specs.Laws.Ranks.{eachRank-keeps}
 use Rattle.broker.specs.Laws.Sound.{Shape}
 use Rattle.broker.specs.Life.{start, end}

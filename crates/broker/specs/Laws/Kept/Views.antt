@@ -8,16 +8,16 @@ use borrow.Author.Tests.{eqb-true, lt-ltb}
 use lib.Dec.{T, eqb}
 use lib.ListN.{length}
 use Rattle.transit.specs.Laws.Operations.{appends, relabels, relabels-first, removes}
-use Rattle.transit.specs.Laws.Lists.{every-always, every-append, every-changeFirst, every-without, every-wider}
-use Rattle.transit.specs.Laws.Tests.{both, both-left, both-right}
-use Rattle.transit.specs.Lists.{every, changeEach, changeFirst, select, tally}
+use Rattle.base.specs.Laws.Lists.{every-always, every-append, every-changeFirst, every-without, every-wider}
+use Rattle.base.specs.Laws.Tests.{both, both-left, both-right, not-both, true-of}
+use Rattle.base.specs.Lists.{every, changeEach, changeFirst, select, tally}
 use Rattle.transit.specs.Message.{sameRank, relabelled, picks, at as at-place, between, samePlace, to, placeOrder}
 use Rattle.transit.specs.Unread.{Unread, limit, relabelFirst, firstSent, appended, removed, head, leave}
 use Rattle.transit.specs.declared.Found.{Found}
 use Rattle.transit.specs.declared.Found.the-variants.{First, Nothing}
 use Rattle.transit.specs.declared.Message.{Message}
 use Rattle.transit.specs.declared.Place.{Place}
-use Rattle.transit.specs.declared.Place.the-variants.{SourceList, SourceChannel, List as EndList, Channel}
+use Rattle.transit.specs.declared.Place.the-variants.{SourceList, SourceChannel, EndList, Channel}
 use Rattle.transit.specs.declared.Rank.{Rank}
 use Rattle.transit.specs.declared.Selection.{Selection}
 use Rattle.transit.specs.declared.Selection.the-variants.{ToAt, Between, BetweenAt}
@@ -29,14 +29,13 @@ use Rattle.broker.specs.Laws.Checks.{Passes}
 use Rattle.broker.specs.Laws.Effect.{Effect, roleOf, roleBetween, pairs-stay, message-stays}
 use Rattle.broker.specs.Laws.Fit.{guarded, at-side, at-pair, fits, pair-fits, messages-fit, every-and, nothingWith, runs-as}
 use Rattle.broker.specs.Laws.Kept.Effects
-use Rattle.broker.specs.Laws.Logic.{not-both, true-of}
 use Rattle.broker.specs.Laws.Sound.{Facts, Pairs, isNamed}
 use Rattle.broker.specs.Laws.View.{Role, forward, backward, outside, Side, side, runs, Change, keeps, pairFits, messageFits, atSides, atPairs}
 use Rattle.broker.specs.Life.{start, end}
 use Rattle.broker.specs.Messages.{send, take, look, sentMessage, placeOver}
-use Rattle.broker.specs.Migrate.{move, heed, drain, land, drainFound, await, onSourceChannel}
+use Rattle.broker.specs.Migrate.{move, heed, drain, land, drainFound, onSourceChannel}
+use Rattle.broker.specs.State.{await, State, messages, status, request, backlog, withLinks, withUnread}
 use Rattle.broker.specs.Names.{isEnded, isClosed, isUnheeded, sameVmid, endpoint, postedTo}
-use Rattle.broker.specs.State.{State, messages, status, request, backlog, withLinks, withUnread}
 use Rattle.broker.specs.Step.{apply}
 use Rattle.broker.specs.declared.link.Backlog.the-variants.{Clear}
 use Rattle.broker.specs.declared.process.Vmid.{Vmid}

@@ -6,7 +6,9 @@ use native.Mathlib.Numerals.{add-one}
 use native.Mathlib.Omega.{arith}
 use borrow.Author.Needs.{needs}
 use Rattle.broker.specs.Migrate.{leave, leaveAll}
-use Rattle.broker.specs.Ranks.{rank, eachBelow, eachRank}
+use Rattle.transit.specs.Message.{rank}
+use Rattle.broker.specs.Ranks.{eachRank}
+use Rattle.base.specs.Below.{eachBelow}
 use Rattle.broker.specs.State.{State, withLinks}
 use Rattle.roster.specs.Roster.{ranksOf, Holds}
 use Rattle.depart.proofs.leaving.leave_all.Statement.{statement}

@@ -5,7 +5,7 @@ use native.Mathlib.Numerals.{add-one}
 use native.Mathlib.Omega.{arith}
 use borrow.Author.Needs.{needs}
 use Rattle.lines.specs.Lines.{linesOfSender, pairLines, textsBelow}
-use Rattle.broker.specs.Ranks.{ranks}
+use Rattle.transit.specs.Message.{ranks}
 use Rattle.printout.specs.Last.{PutOf, senderRoom}
 use Rattle.printout.specs.Laws.Last.{none-said, said-of-any, and-then, said-in}
 use Rattle.printout.proofs.last.last_lines.Statement.{statement}

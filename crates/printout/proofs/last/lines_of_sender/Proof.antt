@@ -5,7 +5,7 @@ use native.Mathlib.Numerals.{add-one}
 use native.Mathlib.Omega.{arith}
 use borrow.Author.Needs.{needs}
 use Rattle.lines.specs.Lines.{linesOfPair, pairRoom, textsBelow}
-use Rattle.broker.specs.Ranks.{ranks}
+use Rattle.transit.specs.Message.{ranks}
 use Rattle.printout.specs.Last.{PutOf}
 use Rattle.printout.specs.Laws.Last.{none-said, and-then, said-in}
 use Rattle.printout.proofs.last.lines_of_sender.Statement.{statement}

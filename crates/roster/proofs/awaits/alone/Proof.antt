@@ -7,9 +7,12 @@ use borrow.Author.Needs.{needs}
 use borrow.Author.Tests.{not-true, not-false}
 use Rattle.transit.specs.declared.Rank.{Rank}
 use Rattle.broker.specs.Names.{isClosed}
-use Rattle.broker.specs.Ranks.{rank, allBelow, everyRank}
+use Rattle.transit.specs.Message.{rank}
+use Rattle.broker.specs.Ranks.{everyRank}
+use Rattle.base.specs.Below.{allBelow}
 use Rattle.broker.specs.State.{linkAt}
-use Rattle.roster.specs.Laws.Counts.{all-passed, one-rank-failed}
+use Rattle.base.specs.Laws.Below.{allBelow-next}
+use Rattle.broker.specs.Laws.Ranks.{everyRank-fails}
 use Rattle.roster.specs.Roster.{ranksOf}
 use Rattle.roster.proofs.awaits.alone.Statement.{statement}
 use Rattle.roster.proofs.awaits.alone.Tie as tie
@@ -38,7 +41,7 @@ returns c =
     let args = head .before .args in
     let closedTo : Rank → Bool = λ p. isClosed (linkAt (ranksOf (args .roster .now) .links) (args .r) p .connection) in
     let test : closedTo (rank (head .loop .i)) ≡ false = rw (← link, ← closed) (not-true _ (c .if1 .taken)) in
-    sym (one-rank-failed closedTo (rank (head .loop .i)) (omega arith) test)
+    sym (everyRank-fails closedTo (rank (head .loop .i)) (omega arith) test)
 
 add-i : tie.Need-add-i Inv-loop μ-loop
 add-i c = search needs
@@ -54,7 +57,7 @@ loop-again c =
     let args = head .before .args in
     let closedTo : ℕ → Bool = λ k. isClosed (linkAt (ranksOf (args .roster .now) .links) (args .r) (rank k) .connection) in
     let test : closedTo (head .loop .i) ≡ true = rw (← link, ← closed) (not-false _ (c .if1 .left)) in
-    (omega arith, all-passed closedTo (head .loop .i) test (head .loop .inv .1))
+    (omega arith, allBelow-next (head .loop .i) closedTo (head .loop .inv .1) test)
 
 returns-2 : tie.Need-returns-2 Inv-loop μ-loop
 unfolding everyRank

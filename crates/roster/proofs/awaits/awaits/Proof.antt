@@ -7,9 +7,11 @@ use Prim.Native.Nat.{ℕ, _≤_, _-_}
 use native.Mathlib.Omega.{arith}
 use borrow.Author.Needs.{needs}
 use Rattle.broker.specs.Names.{isClear}
-use Rattle.broker.specs.Ranks.{rank, countBelow, countRanks}
+use Rattle.transit.specs.Message.{rank}
+use Rattle.broker.specs.Ranks.{countRanks}
+use Rattle.base.specs.Below.{countBelow}
 use Rattle.broker.specs.State.{linkAt}
-use Rattle.roster.specs.Laws.Counts.{count-passed, count-failed}
+use Rattle.base.specs.Laws.Below.{count-passed, count-failed}
 use Rattle.roster.specs.Roster.{ranksOf}
 use Rattle.roster.proofs.awaits.awaits.Statement.{statement}
 use Rattle.roster.proofs.awaits.awaits.Tie as tie

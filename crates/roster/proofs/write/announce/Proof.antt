@@ -6,7 +6,9 @@ use native.Mathlib.Omega.{arith}
 use borrow.Author.Needs.{needs}
 use lib.ListN.{set}
 use Rattle.broker.specs.Life.{announced}
-use Rattle.broker.specs.Ranks.{rank, eachBelow, eachRank}
+use Rattle.transit.specs.Message.{rank}
+use Rattle.broker.specs.Ranks.{eachRank}
+use Rattle.base.specs.Below.{eachBelow}
 use Rattle.broker.specs.State.{cell, withLocations}
 use Rattle.roster.specs.Roster.{ranksOf, Holds}
 use Rattle.roster.proofs.write.announce.Statement.{statement}

@@ -11,16 +11,15 @@ use borrow.Author.Tests.{not-true, not-false, le-leb, lt-leb}
 use lib.ListN.{length, drop, replicate, getD, set, length-set, drop-of-length-le}
 use Rattle.transit.specs.Laws.Order.{place-below-four}
 use Rattle.transit.specs.Laws.Slots.{read-slot}
-use Rattle.transit.specs.Laws.Tests.{both}
+use Rattle.base.specs.Laws.Tests.{both, fails-left, fails-right}
 use Rattle.transit.specs.Message.{number}
-use Rattle.transit.specs.Unread.{view}
+use Rattle.transit.specs.Unread.{unreadOf}
 use Rattle.transit.specs.declared.Message.{Message}
 use Rattle.transit.specs.declared.Place.the-variants.{SourceList}
 use Rattle.broker.specs.Laws.Sound.{isNamed}
 use Rattle.soundness.specs.Laws.Marks.{markOf, Tested, none-tested, passed-again, by-marks, tested-next}
 use Rattle.soundness.specs.Laws.Messages.{sender-inside, receiver-inside, pair-inside, has-cell, fit-alike}
 use Rattle.soundness.specs.Laws.Rising.{rises-unfit, rises-falls, rises-next}
-use Rattle.soundness.specs.Laws.Logic.{fails-left, fails-right}
 use Rattle.soundness.specs.Messages.{messageSoundAt, pairOf, rises, messagesSound}
 use Rattle.soundness.proofs.Types.{held-count}
 use Rattle.soundness.proofs.messages.messages_sound.Statement.{statement}
@@ -31,8 +30,8 @@ Inv-loop processes links t count last₀ i₀ last i =
     (i ≤ count) ×
     (length last ≡ 256) ×
     Tested (messageSoundAt processes links) pairOf number isNamed last ×
-    (rises (messageSoundAt processes links) pairOf (markOf number) last (drop i (view t .messages)) ≡
-    rises (messageSoundAt processes links) pairOf number (replicate 256 0) (view t .messages))
+    (rises (messageSoundAt processes links) pairOf (markOf number) last (drop i (unreadOf t .messages)) ≡
+    rises (messageSoundAt processes links) pairOf number (replicate 256 0) (unreadOf t .messages))
 
 abbrev μ-loop : tie.MeasureT-loop
 μ-loop processes links t count last₀ i₀ last i = count - i
@@ -43,7 +42,7 @@ blank = record { sender = record { 0 = 0 }; receiver = record { 0 = 0 }; value =
 
 -- the messages, the one that a turn reads, those after it, and the test of one
 abbrev unread : tie.At-loop Inv-loop μ-loop → List Message
-unread head = view (head .before .before .args .t3) .messages
+unread head = unreadOf (head .before .before .args .t3) .messages
 
 abbrev message : tie.At-loop Inv-loop μ-loop → Message
 message head = getD (head .before .before .args .t3 .messages) (head .loop .i) blank
@@ -56,7 +55,7 @@ test head = messageSoundAt (head .before .before .args .t1) (head .before .befor
 
 -- the test of them all
 abbrev all-sound : tie.At-loop Inv-loop μ-loop → Bool
-all-sound head = messagesSound (head .before .before .args .t1) (head .before .before .args .t2) (view (head .before .before .args .t3))
+all-sound head = messagesSound (head .before .before .args .t1) (head .before .before .args .t2) (unreadOf (head .before .before .args .t3))
 
 -- what is known of the last marks before the messages after this turn's
 abbrev Kept : tie.At-loop Inv-loop μ-loop → List ℕ → Type 0
@@ -83,7 +82,7 @@ abbrev last-mark : tie.At-loop Inv-loop μ-loop → ℕ
 last-mark head = getD (head .loop .last) (pairOf (message head)) 0
 
 -- as many messages are held as the count says
-held : (c : tie.Else1 Inv-loop μ-loop) → length (view (c .before .args .t3) .messages) ≡ c .before .args .t3 .count
+held : (c : tie.Else1 Inv-loop μ-loop) → length (unreadOf (c .before .args .t3) .messages) ≡ c .before .args .t3 .count
 held c = held-count (c .before .args .t3) _ (c .before .good .1 .1 .0) (c .if1 .left)
 
 -- what the pass from here comes to, the test of all messages does
@@ -155,7 +154,7 @@ loop-holds c =
       omega arith,
       search needs,
       none-tested (messageSoundAt ps ls) pairOf number isNamed 256 pair-inside,
-      by-marks (messageSoundAt ps ls) pairOf number 256 (has-cell ps ls) (view (args .t3) .messages),
+      by-marks (messageSoundAt ps ls) pairOf number 256 (has-cell ps ls) (unreadOf (args .t3) .messages),
     )
 
 mul-m : tie.Need-mul-m Inv-loop μ-loop

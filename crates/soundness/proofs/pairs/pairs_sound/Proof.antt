@@ -6,8 +6,10 @@ use Prim.Native.Nat.{ℕ, _≤_, _-_, _/_, _%_}
 use native.Mathlib.Omega.{arith}
 use borrow.Author.Needs.{needs}
 use borrow.Author.Tests.{not-true, not-false}
-use Rattle.broker.specs.Ranks.{rank, allBelow}
-use Rattle.soundness.specs.Laws.Walk.{allBelow-next, allBelow-fails, cell-of, everyPair-rows}
+use Rattle.transit.specs.Message.{rank}
+use Rattle.base.specs.Below.{allBelow}
+use Rattle.base.specs.Laws.Below.{allBelow-next, allBelow-fails}
+use Rattle.soundness.specs.Laws.Walk.{cell-of, everyPair-rows}
 use Rattle.soundness.specs.Pairs.{pairSoundAt, pairsSound}
 use Rattle.soundness.proofs.pairs.pairs_sound.Statement.{statement}
 use Rattle.soundness.proofs.pairs.pairs_sound.Tie as tie

@@ -6,8 +6,10 @@ use Prim.Native.Nat.{ℕ, _≤_, _-_}
 use native.Mathlib.Omega.{arith}
 use borrow.Author.Needs.{needs}
 use borrow.Author.Tests.{not-true, not-false}
-use Rattle.broker.specs.Ranks.{rank, allBelow, everyRank}
-use Rattle.soundness.specs.Laws.Walk.{allBelow-next, allBelow-fails}
+use Rattle.transit.specs.Message.{rank}
+use Rattle.broker.specs.Ranks.{everyRank}
+use Rattle.base.specs.Below.{allBelow}
+use Rattle.base.specs.Laws.Below.{allBelow-next, allBelow-fails}
 use Rattle.soundness.specs.Ranks.{rankSoundAt, ranksSound}
 use Rattle.soundness.proofs.ranks.ranks_sound.Statement.{statement}
 use Rattle.soundness.proofs.ranks.ranks_sound.Tie as tie

@@ -13,7 +13,7 @@ use Rattle.steps.specs.Laws.InPlace.{sound-ranked, state-held}
 use Rattle.steps.proofs.load.load.Statement.{statement}
 use Rattle.steps.proofs.load.load.Tie as tie
 
-passed : (c : tie.Else1) → sound (view (c .before .before .args .b)) ≡ true
+passed : (c : tie.Else1) → sound (view (c .before .before .args .broker)) ≡ true
 passed c = sym (c .before .is-sound .ensures) ∙ not-false _ (c .if1 .left)
 
 is-sound-requires : tie.Need-is-sound-requires
@@ -28,7 +28,7 @@ load-requires : tie.Need-load-requires
 load-requires c κs =
     let test = c .before .before .before in
     let start = test .before .before in
-    let s = view (start .args .b) in
+    let s = view (start .args .broker) in
     let ok = passed test in
     (start .pre .0, (start .pre .1 .0, (facts s ok .mail .few, sound-ranked s ok)))
 
@@ -47,7 +47,7 @@ returns-2 c =
       holds = λ _.
           record {
             desk = record { mail = messages .kept; long = c .load2 .ensures .long };
-            same = state-held (view (start .args .b)) _ _ _ ok (messages .same) (c .load2 .ensures .same);
+            same = state-held (view (start .args .broker)) _ _ _ ok (messages .same) (c .load2 .ensures .same);
           };
     }
 

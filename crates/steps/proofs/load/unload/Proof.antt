@@ -2,7 +2,7 @@
 use mathlib.Core.Path.{ap, _∙_}
 use borrow.Author.Needs.{needs}
 use Rattle.transit.proofs.load.unload.Reads as load-unload-reads′
-use Rattle.transit.specs.Unread.{Unread, view as unreadOf}
+use Rattle.transit.specs.Unread.{Unread, unreadOf}
 use Rattle.broker.specs.State.{State, withUnread}
 use Rattle.roster.specs.Roster.{ranksOf}
 use Rattle.steps.proofs.load.unload.Statement.{statement}

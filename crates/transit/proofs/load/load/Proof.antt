@@ -10,16 +10,16 @@ use lib.ListN.{length, getD, take, length-take, length-append}
 use lib.Seq.{take-suc, getD-take, take-all}
 use Rattle.transit.specs.Mail.{Loaded}
 use Rattle.transit.specs.Slots.{ranked}
-use Rattle.transit.specs.Unread.{view}
-use Rattle.transit.specs.Laws.Lists.{every-at}
-use Rattle.transit.specs.Laws.Tests.{both-left, both-right}
+use Rattle.transit.specs.Unread.{unreadOf}
+use Rattle.base.specs.Laws.Lists.{every-at}
+use Rattle.base.specs.Laws.Tests.{both-left, both-right}
 use Rattle.transit.proofs.Slots.{slots, blank}
 use borrow.Author.Needs.{needs}
 use Rattle.transit.proofs.load.load.Statement.{statement}
 use Rattle.transit.proofs.load.load.Tie as tie
 
 abbrev Inv-loop : tie.InvT-loop
-Inv-loop slots₀ contents₀ t end i₀ slots contents i = (i ≤ end) × Loaded (take i (view t .messages)) slots contents
+Inv-loop slots₀ contents₀ t end i₀ slots contents i = (i ≤ end) × Loaded (take i (unreadOf t .messages)) slots contents
 
 abbrev μ-loop : tie.MeasureT-loop
 μ-loop slots₀ contents₀ t end i₀ slots contents i = end - i
@@ -27,12 +27,12 @@ abbrev μ-loop : tie.MeasureT-loop
 -- The next message: its ranks, and the messages up to it.
 next-one : (h : tie.At-loop Inv-loop μ-loop) → let t = h .before .before .before .args .t1 in let i = h .loop .i in i < t .count
     → (getD (t .messages) i blank .sender .0 < 16) × (getD (t .messages) i blank .receiver .0 < 16)
-    × (take (i + 1) (view t .messages) ≡ take i (view t .messages) ++ (getD (t .messages) i blank ∷ []))
+    × (take (i + 1) (unreadOf t .messages) ≡ take i (unreadOf t .messages) ++ (getD (t .messages) i blank ∷ []))
 next-one h before =
     let start = h .before .before .before in
     let t = start .args .t1 in
     let i = h .loop .i in
-    let l = view t .messages in
+    let l = unreadOf t .messages in
     let inside : i < length l = omega (arith, length-take (t .count) (t .messages), slots t _ (start .good .0), start .pre .1 .1 .0) in
     let same : getD l i blank ≡ getD (t .messages) i blank = getD-take (t .count) (t .messages) i blank before in
     let m = getD (t .messages) i blank in
@@ -60,7 +60,7 @@ put-requires c κs =
     let start = h .before .before .before in
     let n = next-one h (omega arith) in
     let held = h .loop .inv .1 in
-    let few = length-take (h .loop .i) (view (start .args .t1) .messages) in
+    let few = length-take (h .loop .i) (unreadOf (start .args .t1) .messages) in
     let limited = start .pre .1 .1 .0 in
     (held .kept, (omega (arith, held .packed), (omega (arith, ap length (held .same)), (n .0, n .1))))
 
@@ -88,7 +88,7 @@ returns : tie.Need-returns Inv-loop μ-loop
 returns c =
     let h = c .before in
     let t = h .before .before .before .args .t1 in
-    let l = view t .messages in
+    let l = unreadOf t .messages in
     let all : take (h .loop .i) l ≡ l = take-all (h .loop .i) l (omega (arith, length-take (t .count) (t .messages))) in
     rw all at (h .loop .inv .1)
 

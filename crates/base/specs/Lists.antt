@@ -1,8 +1,8 @@
 -- Lists under a Boolean test: the elements that pass, how many, the first of them, and the list without it or with it changed.
 -- Assumes nothing.
-use mathlib.Core.Bool.{Bool, true, cond, _&&_}
+use mathlib.Core.Bool.{Bool, true, false, cond, _&&_, _||_}
 use mathlib.Core.List.{List, [], _∷_}
-use Prim.Native.Nat.{ℕ}
+use Prim.Native.Nat.{ℕ, zero, suc}
 use lib.Dec.{leb}
 use lib.ListN.{length}
 
@@ -30,6 +30,11 @@ module _ {A : Type 0} where
   abbrev pub changeEach : (A → Bool) → (A → A) → A → A
   changeEach p f x = cond (p x) (f x) x
 
+  -- the test passes at one element at least
+  abbrev pub anyOf : (A → Bool) → List A → Bool
+  anyOf p [] = false
+  anyOf p (x ∷ xs) = p x || anyOf p xs
+
   -- the test passes at every element
   abbrev pub every : (A → Bool) → List A → Bool
   every p [] = true
@@ -39,3 +44,8 @@ module _ {A : Type 0} where
 abbrev pub neverFalls : List ℕ → Bool
 neverFalls [] = true
 neverFalls (x ∷ xs) = every (leb x) xs && neverFalls xs
+
+-- f 0, f 1, .. up to f (n - 1)
+unfoldable pub tabulate : {A : Type 0} → ℕ → (ℕ → A) → List A
+tabulate zero f = []
+tabulate (suc n) f = f 0 ∷ tabulate n (λ k. f (suc k))

@@ -8,9 +8,9 @@ use native.Mathlib.Omega.{arith}
 use borrow.Author.Tests.{leb-true, le-leb}
 use lib.Dec.{leb}
 use lib.ListN.{length}
-use Rattle.transit.specs.Lists.{select, every, without, changeFirst, neverFalls}
-use Rattle.transit.specs.Laws.Lists.{every-map, every-both, every-select, every-selected, every-wider, every-changeFirst}
-use Rattle.transit.specs.Laws.Tests.{by-test, both, both-left, both-right}
+use Rattle.base.specs.Lists.{select, every, without, changeFirst, neverFalls}
+use Rattle.base.specs.Laws.Lists.{every-map, every-both, every-select, every-selected, every-wider, every-changeFirst}
+use Rattle.base.specs.Laws.Tests.{by-test, both, both-left, both-right}
 
 module _ {A : Type 0} where
   -- Where every element passes t, every element that passes p passes what follows from both.

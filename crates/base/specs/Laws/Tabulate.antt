@@ -7,7 +7,7 @@ use native.Mathlib.Nat.{not-suc-le-zero}
 use native.Mathlib.Omega.{arith}
 use lib.ListN.{length, getD, set, List·getD-eq-default}
 use lib.Seq.{ext-getD, set-out}
-use Rattle.roster.specs.Roster.{tabulate}
+use Rattle.base.specs.Lists.{tabulate}
 
 module _ {A : Type 0} where
   pub tabulate-long : (n : ℕ) (f : ℕ → A) → length (tabulate n f) ≡ n

@@ -7,8 +7,8 @@ use Prim.Native.Nat.{ℕ, zero, suc, _+_, _<_, _≤_}
 use native.Mathlib.Omega.{arith}
 use borrow.Author.Tests.{not-true}
 use lib.ListN.{length, getD, length-append}
-use Rattle.transit.specs.Lists.{select, tally, without, changeFirst, changeEach, every}
-use Rattle.transit.specs.Laws.Tests.{by-test, both-left, both-right}
+use Rattle.base.specs.Lists.{select, tally, without, changeFirst, changeEach, every}
+use Rattle.base.specs.Laws.Tests.{by-test, both-left, both-right}
 
 module _ {A : Type 0} where
   -- A test that always passes, passes at every element.

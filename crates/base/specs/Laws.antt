@@ -1,0 +1,7 @@
+-- The laws of the definitions.
+pub mod Tests
+pub mod Lists
+pub mod Rising
+pub mod Below
+pub mod Tabulate
+pub mod Stores
