@@ -1,9 +1,10 @@
 -- The state that a roster holds: five columns, one behind the other, of standings (16), calls (16), table entries (256), links (256)
 -- and numbers drawn (8). Paper 01, "Names and places". Assumes nothing.
 use mathlib.Core.Path.{_≡_}
-use mathlib.Core.List.{List, [], _∷_}
-use Prim.Native.Nat.{ℕ, zero, suc, _+_}
+use mathlib.Core.List.{List}
+use Prim.Native.Nat.{ℕ, _+_}
 use lib.ListN.{length, getD}
+use Rattle.base.specs.Lists.{tabulate}
 use Rattle.transit.specs.Unread.{nothing}
 use Rattle.broker.specs.State.{State}
 use Rattle.broker.specs.declared.link.Link.{Link}
