@@ -6,7 +6,7 @@ use Prim.Native.Nat.{ℕ}
 use lib.Dec.{eqb, leb, ltb}
 use lib.ListN.{length}
 use Rattle.base.specs.Lists.{select, every, neverFalls}
-use Rattle.transit.specs.Message.{between, at, placeNumber, sameRank, isRank}
+use Rattle.transit.specs.Message.{between, at, placeNumber, sameRank, isRank, ranks, cells}
 use Rattle.transit.specs.Unread.{limit}
 use Rattle.transit.specs.declared.Message.{Message}
 use Rattle.transit.specs.declared.Place.the-variants.{SourceList, SourceChannel, Channel}
@@ -22,10 +22,10 @@ use Rattle.broker.specs.declared.process.Vmid.{Vmid}
 -- "For each rank and each other rank the state holds ..": a part for each rank, for each rank and each rank, and for each host
 unfoldable pub shaped : State → Bool
 shaped s =
-    eqb (length (s .processes)) 16 &&
-    eqb (length (s .locations)) 256 &&
-    eqb (length (s .links)) 256 &&
-    eqb (length (s .drawn)) 8
+    eqb (length (s .processes)) ranks &&
+    eqb (length (s .locations)) cells &&
+    eqb (length (s .links)) cells &&
+    eqb (length (s .drawn)) hosts
 
 -- The names: vmids, tables and calls.
 

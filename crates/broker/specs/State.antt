@@ -4,10 +4,11 @@ use mathlib.Core.Bool.{not}
 use mathlib.Core.List.{List}
 use Prim.Native.Nat.{ℕ, _+_, _*_}
 use lib.ListN.{getD, set, replicate}
+use Rattle.transit.specs.Message.{ranks, cells}
 use Rattle.transit.specs.Unread.{Unread, nothing, unreadOf}
 use Rattle.transit.specs.declared.Message.{Message}
 use Rattle.transit.specs.declared.Rank.{Rank}
-use Rattle.broker.specs.Names.{unknown, vmid, isClear}
+use Rattle.broker.specs.Names.{unknown, vmid, isClear, hosts}
 use Rattle.broker.specs.Ranks.{countRanks}
 use Rattle.broker.specs.declared.link.Backlog.{Backlog}
 use Rattle.broker.specs.declared.link.Backlog.the-variants.{Clear}
@@ -52,16 +53,16 @@ apart = record { connection = Closed; backlog = Clear }
 abbrev pub fresh : State
 fresh =
     record {
-      processes = replicate 16 idle;
-      locations = replicate 256 unknown;
-      links = replicate 256 apart;
-      drawn = replicate 8 0;
+      processes = replicate ranks idle;
+      locations = replicate cells unknown;
+      links = replicate cells apart;
+      drawn = replicate hosts 0;
       unread = nothing;
     }
 
 -- where a's entry for b stands among sixteen rows of sixteen
 abbrev pub cell : Rank → Rank → ℕ
-cell a b = 16 * (a .0) + (b .0)
+cell a b = ranks * (a .0) + (b .0)
 
 abbrev pub linkAt : List Link → Rank → Rank → Link
 linkAt ls a b = getD ls (cell a b) apart

@@ -8,20 +8,23 @@ use crate::process::Process;
 use crate::process::Request;
 use crate::process::Status;
 use crate::process::Vmid;
+use transit::CELLS;
+use transit::RANKS;
+use transit::Rank;
 use transit::Transit;
 
 // Sixteen processes; sixteen location tables of sixteen vmids each, row after row; a link for each rank towards each rank,
 // laid out likewise; how many numbers are drawn on each host; and the unread messages.
 pub struct Broker {
-    pub processes: [Process; 16],
-    pub locations: [Vmid; 256],
-    pub links: [Link; 256],
+    pub processes: [Process; RANKS],
+    pub locations: [Vmid; CELLS],
+    pub links: [Link; CELLS],
     pub drawn: [u16; 8],
     pub transit: Transit,
 }
 
 impl Broker {
-    pub const RANKS: u8 = 16;
+    pub const RANKS: u8 = Rank::LIMIT;
 
     pub const HOSTS: u8 = 8;
 
@@ -42,9 +45,9 @@ impl Broker {
         let unknown = Vmid(0, 0);
         let transit = Transit::fresh();
         Broker {
-            processes: [process; 16],
-            locations: [unknown; 256],
-            links: [link; 256],
+            processes: [process; RANKS],
+            locations: [unknown; CELLS],
+            links: [link; CELLS],
             drawn: [0; 8],
             transit: transit,
         }

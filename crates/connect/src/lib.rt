@@ -5,7 +5,7 @@ ghost use mathlib.Core.List.{List};
 ghost use mathlib.Core.Path.{_≡_};
 ghost use Prim.Native.Nat.{ℕ, _<_};
 ghost use Rattle.transit.specs.Mail.{Mail};
-ghost use Rattle.transit.specs.Message.{sameRank};
+ghost use Rattle.transit.specs.Message.{sameRank, ranks};
 ghost use Rattle.transit.specs.Unread.{Unread};
 ghost use Rattle.broker.specs.Connect.{call, connectBoth, withdraw, routeThere, routeOn, route, part};
 ghost use Rattle.broker.specs.State.{withUnread};
@@ -171,7 +171,7 @@ pub fn part_verdict(a: Rank, b: Rank, roster: &Roster) -> Verdict
 // The channels between `a` and `b` are read into the lists, and their lines close.
 pub fn part(a: Rank, b: Rank, slots: &mut Slots, roster: &mut Roster) -> Values
     requires { ⌜ Whole (now roster) ⌝ }
-    requires { ⌜ (a .0 < 16) × (b .0 < 16) ⌝ }
+    requires { ⌜ (a .0 < ranks) × (b .0 < ranks) ⌝ }
     requires apart { ⌜ sameRank a b ≡ false ⌝ }
     ensures { λ v. ⌜ ((contents : List ℕ) → Mail (now (slots .entry)) contents → DeskDoes (part a b) (now (slots .entry)) contents
         (now (roster .entry)) v (now (slots .exit)) contents (now (roster .exit))) ⌝ }

@@ -3,6 +3,7 @@ ghost use mathlib.Core.List.{List};
 ghost use mathlib.Core.Path.{_≡_};
 ghost use Prim.Native.Nat.{ℕ, _<_};
 ghost use Rattle.transit.specs.Mail.{Mail};
+ghost use Rattle.transit.specs.Message.{ranks};
 ghost use Rattle.broker.specs.Migrate.{leave, leaveAll};
 ghost use Rattle.broker.specs.State.{withLinks};
 ghost use Rattle.roster.specs.Roster.{ranksOf, Holds, Whole};
@@ -16,6 +17,7 @@ use roster::write::awaiting;
 use roster::write::connect;
 use roster::write::set_link;
 use transit::Place;
+use transit::RANKS;
 use transit::Rank;
 use transit::Slots;
 use transit::relabel::relabel_to;
@@ -56,7 +58,7 @@ pub fn leave_all(r: Rank, roster: &mut Roster)
         (now (roster .entry)))) ⌝ }
 {
     let mut i: u8 = 0;
-    while i < 16 {
+    while i < RANKS {
         leave(r, Rank(i), roster);
         i += 1;
     }
@@ -64,7 +66,7 @@ pub fn leave_all(r: Rank, roster: &mut Roster)
 
 // The messages to `r` stay with its source process.
 pub fn leave_behind(r: Rank, slots: &mut Slots)
-    requires { ⌜ r .0 < 16 ⌝ }
+    requires { ⌜ r .0 < ranks ⌝ }
     ensures { λ _. ⌜ ((contents : List ℕ) → Mail (now (slots .entry)) contents → LeftBehind r (now (slots .entry)) contents
         (now (slots .exit))) ⌝ }
 {

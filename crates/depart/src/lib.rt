@@ -3,6 +3,7 @@ ghost use mathlib.Core.List.{List};
 ghost use mathlib.Core.Path.{_≡_};
 ghost use Prim.Native.Nat.{ℕ, _<_};
 ghost use Rattle.transit.specs.Mail.{Mail};
+ghost use Rattle.transit.specs.Message.{ranks};
 ghost use Rattle.transit.specs.Unread.{Unread};
 ghost use Rattle.broker.specs.Migrate.{move};
 ghost use Rattle.broker.specs.Names.{numbers};
@@ -62,7 +63,7 @@ pub fn move_verdict(r: Rank, host: u8, roster: &Roster) -> Verdict
 // `r` migrates to `host` with its next number, and the lines that it has are left.
 pub fn move_to(r: Rank, host: u8, slots: &mut Slots, roster: &mut Roster) -> Values
     requires { ⌜ Whole (now roster) ⌝ }
-    requires { ⌜ r .0 < 16 ⌝ }
+    requires { ⌜ r .0 < ranks ⌝ }
     requires { ⌜ drawnOn (ranksOf (now roster)) host < numbers ⌝ }
     ensures { λ v. ⌜ ((contents : List ℕ) → Mail (now (slots .entry)) contents → DeskDoes (move r host) (now (slots .entry)) contents
         (now (roster .entry)) v (now (slots .exit)) contents (now (roster .exit))) ⌝ }

@@ -6,7 +6,7 @@ ghost use lib.ListN.{length};
 ghost use Prim.Native.Nat.{ℕ, _<_};
 ghost use Rattle.base.specs.Lists.{tally};
 ghost use Rattle.transit.specs.Mail.{Mail, messagesIn};
-ghost use Rattle.transit.specs.Message.{between, to};
+ghost use Rattle.transit.specs.Message.{between, to, ranks};
 ghost use Rattle.transit.specs.Unread.{limit};
 ghost use Rattle.broker.specs.Messages.{placeOver, send, take};
 ghost use Rattle.broker.specs.declared.record.Record.{Record};
@@ -87,7 +87,7 @@ pub fn send(
     roster: &Roster,
 ) -> Values
     requires { ⌜ Desk (now slots) (now contents) (now roster) ⌝ }
-    requires { ⌜ (a .0 < 16) × (b .0 < 16) ⌝ }
+    requires { ⌜ (a .0 < ranks) × (b .0 < ranks) ⌝ }
     requires { ⌜ length (messagesIn (now slots) (now contents)) < limit ⌝ }
     ensures { λ v. ⌜ DeskDoes (send a b value) (now (slots .entry)) (now (contents .entry)) (now (roster .entry)) v
         (now (slots .exit)) (now (contents .exit)) (now (roster .entry)) ⌝ }
@@ -130,7 +130,7 @@ pub fn take_verdict(b: Rank, a: Rank, slots: &Slots, roster: &Roster) -> Verdict
 // The first message from `a` to `b` leaves.
 pub fn take(b: Rank, a: Rank, slots: &mut Slots, contents: &Contents) -> Values
     requires { ⌜ Mail (now slots) (now contents) ⌝ }
-    requires { ⌜ (a .0 < 16) × (b .0 < 16) ⌝ }
+    requires { ⌜ (a .0 < ranks) × (b .0 < ranks) ⌝ }
     requires { ⌜ 0 < tally (between a b) (messagesIn (now slots) (now contents)) ⌝ }
     ensures { λ v. ⌜ ((roster : List ℕ) → Whole roster → DeskDoes (take b a) (now (slots .entry)) (now (contents .entry)) roster v
         (now (slots .exit)) (now (contents .entry)) roster) ⌝ }

@@ -4,6 +4,7 @@ ghost use mathlib.Core.List.{List};
 ghost use mathlib.Core.Path.{_≡_};
 ghost use Prim.Native.Nat.{ℕ, _<_};
 ghost use Rattle.transit.specs.Mail.{Mail};
+ghost use Rattle.transit.specs.Message.{ranks};
 ghost use Rattle.transit.specs.Unread.{Unread};
 ghost use Rattle.broker.specs.Migrate.{heed, drain, land};
 ghost use Rattle.broker.specs.State.{withUnread};
@@ -60,7 +61,7 @@ pub fn heed_verdict(b: Rank, r: Rank, roster: &Roster) -> Verdict
 // `b` reads what is on its channel from `r`, and closes its side with an end marker.
 pub fn heed(b: Rank, r: Rank, slots: &mut Slots, roster: &mut Roster) -> Values
     requires { ⌜ Whole (now roster) ⌝ }
-    requires { ⌜ (b .0 < 16) × (r .0 < 16) ⌝ }
+    requires { ⌜ (b .0 < ranks) × (r .0 < ranks) ⌝ }
     ensures { λ v. ⌜ ((contents : List ℕ) → Mail (now (slots .entry)) contents → DeskDoes (heed b r) (now (slots .entry)) contents
         (now (roster .entry)) v (now (slots .exit)) contents (now (roster .exit))) ⌝ }
 {
@@ -122,7 +123,7 @@ pub fn drain(
     roster: &mut Roster,
 ) -> Values
     requires { ⌜ Desk (now slots) (now contents) (now roster) ⌝ }
-    requires { ⌜ (r .0 < 16) × (p .0 < 16) ⌝ }
+    requires { ⌜ (r .0 < ranks) × (p .0 < ranks) ⌝ }
     ensures { λ v. ⌜ DeskDoes (drain r p) (now (slots .entry)) (now (contents .entry)) (now (roster .entry)) v (now (slots .exit))
         (now (contents .entry)) (now (roster .exit)) ⌝ }
 {
@@ -157,7 +158,7 @@ pub fn land_verdict(r: Rank, roster: &Roster) -> Verdict
 // `r`'s target process runs, and has what the source process had read.
 pub fn land(r: Rank, slots: &mut Slots, roster: &mut Roster) -> Values
     requires { ⌜ Whole (now roster) ⌝ }
-    requires { ⌜ r .0 < 16 ⌝ }
+    requires { ⌜ r .0 < ranks ⌝ }
     ensures { λ v. ⌜ ((contents : List ℕ) → Mail (now (slots .entry)) contents → DeskDoes (land r) (now (slots .entry)) contents
         (now (roster .entry)) v (now (slots .exit)) contents (now (roster .exit))) ⌝ }
 {

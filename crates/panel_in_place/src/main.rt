@@ -2,9 +2,12 @@
 // arrays, a step in place for each record of a log, and at the end the state by value.
 use broker::state::Broker;
 use libc::STDOUT_FILENO;
+use roster::ROSTER_LENGTH;
 use steps::in_place::step_in_place;
 use steps::load::open_fresh;
 use steps::load::unload;
+use transit::CONTENTS_LENGTH;
+use transit::SLOTS_LENGTH;
 
 // The answer's number, 0 where the step is accepted, and its first value.
 fn tell(number: u8, value: u32) {
@@ -18,9 +21,9 @@ fn tell(number: u8, value: u32) {
 fn main() {
     let log =
         b"\x01\x00\x00\x01\x01\x01\x02\x00\x01\x03\x00\x01\x04\x00\x01\xF4\x01\x00\x00\x04\x00\x01\xF5\x01\x00\x00\x05\x01\x00";
-    let mut slots = [0u16; 6914];
-    let mut contents = [0u32; 2048];
-    let mut roster = [0u64; 552];
+    let mut slots = [0u16; SLOTS_LENGTH];
+    let mut contents = [0u32; CONTENTS_LENGTH];
+    let mut roster = [0u64; ROSTER_LENGTH];
     open_fresh(&mut slots, &mut contents, &mut roster);
     let mut at: usize = 0;
     while at < log.len() {

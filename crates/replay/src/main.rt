@@ -8,7 +8,10 @@ use libc::STDIN_FILENO;
 use libc::STDOUT_FILENO;
 use printout::turn::Next;
 use printout::turn::turn;
+use roster::ROSTER_LENGTH;
 use steps::load::open_fresh;
+use transit::CONTENTS_LENGTH;
+use transit::SLOTS_LENGTH;
 
 // What a read came to: how many bytes the buffer holds then, or that it failed.
 pub enum Fill {
@@ -37,9 +40,9 @@ fn tell(why: &[u8]) {
 fn main() {
     let mut buffer = io::large_buffer();
     let mut page = io::large_buffer();
-    let mut slots = [0u16; 6914];
-    let mut contents = [0u32; 2048];
-    let mut roster = [0u64; 552];
+    let mut slots = [0u16; SLOTS_LENGTH];
+    let mut contents = [0u32; CONTENTS_LENGTH];
+    let mut roster = [0u64; ROSTER_LENGTH];
     open_fresh(&mut slots, &mut contents, &mut roster);
     let mut held: usize = 0;
     let mut base: u64 = 0;

@@ -3,10 +3,12 @@ use mathlib.Core.Path.{_≡_}
 use mathlib.Core.List.{List}
 use Prim.Native.Nat.{ℕ, _+_, _*_, _<_, _≤_}
 use lib.ListN.{length, getD, take, drop}
+use Rattle.transit.specs.Message.{ranks}
 use Rattle.broker.specs.State.{State}
 use Rattle.broker.specs.declared.process.Process.{Process}
 use Rattle.broker.specs.declared.process.Vmid.{Vmid}
 use Rattle.roster.specs.Numbers.{vmidOf}
+use Rattle.roster.specs.Roster.{LOCATIONS}
 
 -- all processes of a state
 abbrev pub withProcesses : List Process → State → State
@@ -20,11 +22,11 @@ withAllDrawn ns s =
 
 -- a's table among the tables: "one row an array of sixteen"
 abbrev pub rowOf : ℕ → List Vmid → List Vmid
-rowOf a ls = take 16 (drop (16 * a) ls)
+rowOf a ls = take ranks (drop (ranks * a) ls)
 
 -- an entry of a's table in a roster
 abbrev pub rowIn : ℕ → List ℕ → ℕ → Vmid
-rowIn a l k = vmidOf (getD l (32 + 16 * a + k) 0)
+rowIn a l k = vmidOf (getD l (LOCATIONS + ranks * a + k) 0)
 
 -- the first n of xs are f 0, f 1, .. up to f (n - 1)
 abbrev pub Copied : {A : Type 0} → (ℕ → A) → A → ℕ → List A → Type 0

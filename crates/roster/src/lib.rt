@@ -3,6 +3,7 @@
 // Past a column's end a read gives what a fresh desk has, and a store changes nothing.
 ghost use mathlib.Core.Path.{_≡_};
 ghost use Rattle.broker.specs.State.{cell};
+use transit::RANKS;
 use transit::Rank;
 
 pub mod awaits;
@@ -11,9 +12,11 @@ pub mod numbers;
 pub mod read;
 pub mod write;
 
+pub const ROSTER_LENGTH: usize = 552;
+
 // Five columns, one behind the other: standings (16), calls (16), table entries (256), links (256), numbers drawn (8).
 // All zeros is the fresh state.
-pub type Roster = [u64; 552];
+pub type Roster = [u64; ROSTER_LENGTH];
 
 // Where each column behind the standings starts.
 pub const REQUESTS: usize = 16;
@@ -28,5 +31,5 @@ pub const DRAWN: usize = 544;
 pub fn cell(a: Rank, b: Rank) -> usize
     ensures { λ i. ⌜ i ≡ cell a b ⌝ }
 {
-    16 * (a.0 as usize) + (b.0 as usize)
+    RANKS * (a.0 as usize) + (b.0 as usize)
 }

@@ -2,15 +2,17 @@
 // Paper 01, "Where each language form goes": the tables by value go row by row, a row an array of sixteen.
 ghost use mathlib.Core.Path.{_≡_};
 ghost use Prim.Native.Nat.{_+_, _*_, _<_};
+ghost use Rattle.transit.specs.Message.{ranks};
 ghost use Rattle.transit.specs.Unread.{nothing};
 ghost use Rattle.broker.specs.Names.{unknown};
 ghost use Rattle.broker.specs.State.{view, fresh, withLocations, withLinks, withUnread};
 ghost use Rattle.roster.specs.Loaded.{Filled, rowOf, rowIn, withProcesses, withAllDrawn};
-ghost use Rattle.roster.specs.Roster.{ranksOf, Holds, Whole};
+ghost use Rattle.roster.specs.Roster.{ranksOf, Holds, Whole, LOCATIONS};
 use crate::DRAWN;
 use crate::LINKS;
 use crate::LOCATIONS;
 use crate::REQUESTS;
+use crate::ROSTER_LENGTH;
 use crate::Roster;
 use crate::numbers::decode_drawn;
 use crate::numbers::decode_link;
@@ -30,6 +32,8 @@ use broker::process::Request;
 use broker::process::Status;
 use broker::process::Vmid;
 use broker::state::Broker;
+use transit::CELLS;
+use transit::RANKS;
 
 // Nothing is known of any rank: the fresh state.
 pub fn clear(roster: &mut Roster)
@@ -37,19 +41,19 @@ pub fn clear(roster: &mut Roster)
     ensures { λ _. ⌜ Holds (now (roster .exit)) fresh ⌝ }
 {
     let mut i: usize = 0;
-    while i < 552 {
+    while i < ROSTER_LENGTH {
         roster[i] = 0;
         i += 1;
     }
 }
 
 // All standings and calls.
-fn load_processes(processes: [Process; 16], roster: &mut Roster)
+fn load_processes(processes: [Process; RANKS], roster: &mut Roster)
     requires { ⌜ Whole (now roster) ⌝ }
     ensures { λ _. ⌜ Holds (now (roster .exit)) (withProcesses processes (ranksOf (now (roster .entry)))) ⌝ }
 {
     let mut i: usize = 0;
-    while i < 16 {
+    while i < RANKS {
         let p = processes[i];
         let standing = p.status;
         let request = p.request;
@@ -62,15 +66,15 @@ fn load_processes(processes: [Process; 16], roster: &mut Roster)
 }
 
 // The table of the rank `a`.
-fn row_of(locations: [Vmid; 256], a: usize) -> [Vmid; 16]
-    requires { ⌜ a < 16 ⌝ }
+fn row_of(locations: [Vmid; CELLS], a: usize) -> [Vmid; RANKS]
+    requires { ⌜ a < ranks ⌝ }
     ensures { λ row. ⌜ row ≡ rowOf a locations ⌝ }
 {
     let unknown = Vmid::unknown();
-    let mut row = [unknown; 16];
-    let start = 16 * a;
+    let mut row = [unknown; RANKS];
+    let start = RANKS * a;
     let mut i: usize = 0;
-    while i < 16 {
+    while i < RANKS {
         let v = locations[start + i];
         row[i] = v;
         i += 1;
@@ -79,14 +83,14 @@ fn row_of(locations: [Vmid; 256], a: usize) -> [Vmid; 16]
 }
 
 // The table of the rank `a` goes into the roster.
-fn load_row(row: [Vmid; 16], a: usize, roster: &mut Roster)
+fn load_row(row: [Vmid; RANKS], a: usize, roster: &mut Roster)
     requires { ⌜ Whole (now roster) ⌝ }
-    requires { ⌜ a < 16 ⌝ }
-    ensures { λ _. ⌜ Filled (rowIn a) unknown row 16 (32 + 16 * a) (48 + 16 * a) (now (roster .entry)) (now (roster .exit)) ⌝ }
+    requires { ⌜ a < ranks ⌝ }
+    ensures { λ _. ⌜ Filled (rowIn a) unknown row ranks (LOCATIONS + ranks * a) (LOCATIONS + ranks + ranks * a) (now (roster .entry)) (now (roster .exit)) ⌝ }
 {
-    let into = LOCATIONS + 16 * a;
+    let into = LOCATIONS + RANKS * a;
     let mut i: usize = 0;
-    while i < 16 {
+    while i < RANKS {
         let v = row[i];
         let w = encode_vmid(v);
         roster[into + i] = w;
@@ -95,12 +99,12 @@ fn load_row(row: [Vmid; 16], a: usize, roster: &mut Roster)
 }
 
 // All tables, row by row.
-fn load_locations(locations: [Vmid; 256], roster: &mut Roster)
+fn load_locations(locations: [Vmid; CELLS], roster: &mut Roster)
     requires { ⌜ Whole (now roster) ⌝ }
     ensures { λ _. ⌜ Holds (now (roster .exit)) (withLocations locations (ranksOf (now (roster .entry)))) ⌝ }
 {
     let mut a: usize = 0;
-    while a < 16 {
+    while a < RANKS {
         let row = row_of(locations, a);
         load_row(row, a, roster);
         a += 1;
@@ -108,12 +112,12 @@ fn load_locations(locations: [Vmid; 256], roster: &mut Roster)
 }
 
 // All lines and awaits.
-fn load_links(links: [Link; 256], roster: &mut Roster)
+fn load_links(links: [Link; CELLS], roster: &mut Roster)
     requires { ⌜ Whole (now roster) ⌝ }
     ensures { λ _. ⌜ Holds (now (roster .exit)) (withLinks links (ranksOf (now (roster .entry)))) ⌝ }
 {
     let mut i: usize = 0;
-    while i < 256 {
+    while i < CELLS {
         let link = links[i];
         let w = encode_link(link);
         roster[LINKS + i] = w;
@@ -150,7 +154,7 @@ pub fn load(broker: Broker, roster: &mut Roster)
 }
 
 // All standings and calls, out of the roster.
-fn processes_in(roster: &Roster) -> [Process; 16]
+fn processes_in(roster: &Roster) -> [Process; RANKS]
     requires { ⌜ Whole (now roster) ⌝ }
     ensures { λ processes. ⌜ processes ≡ ranksOf (now (roster .entry)) .processes ⌝ }
 {
@@ -158,9 +162,9 @@ fn processes_in(roster: &Roster) -> [Process; 16]
         status: Status::Unstarted,
         request: Request::Absent,
     };
-    let mut processes = [idle; 16];
+    let mut processes = [idle; RANKS];
     let mut i: usize = 0;
-    while i < 16 {
+    while i < RANKS {
         let standing = decode_standing(roster[i]);
         let request = decode_request(roster[REQUESTS + i]);
         let p = Process {
@@ -174,16 +178,16 @@ fn processes_in(roster: &Roster) -> [Process; 16]
 }
 
 // The table of the rank `a`, out of the roster.
-fn row_in(a: usize, roster: &Roster) -> [Vmid; 16]
+fn row_in(a: usize, roster: &Roster) -> [Vmid; RANKS]
     requires { ⌜ Whole (now roster) ⌝ }
-    requires { ⌜ a < 16 ⌝ }
+    requires { ⌜ a < ranks ⌝ }
     ensures { λ row. ⌜ row ≡ rowOf a (ranksOf (now (roster .entry)) .locations) ⌝ }
 {
     let unknown = Vmid::unknown();
-    let mut row = [unknown; 16];
-    let start = LOCATIONS + 16 * a;
+    let mut row = [unknown; RANKS];
+    let start = LOCATIONS + RANKS * a;
     let mut i: usize = 0;
-    while i < 16 {
+    while i < RANKS {
         let v = decode_vmid(roster[start + i]);
         row[i] = v;
         i += 1;
@@ -192,18 +196,18 @@ fn row_in(a: usize, roster: &Roster) -> [Vmid; 16]
 }
 
 // All tables, row by row, out of the roster.
-fn locations_in(roster: &Roster) -> [Vmid; 256]
+fn locations_in(roster: &Roster) -> [Vmid; CELLS]
     requires { ⌜ Whole (now roster) ⌝ }
     ensures { λ locations. ⌜ locations ≡ ranksOf (now (roster .entry)) .locations ⌝ }
 {
     let unknown = Vmid::unknown();
-    let mut locations = [unknown; 256];
+    let mut locations = [unknown; CELLS];
     let mut a: usize = 0;
-    while a < 16 {
+    while a < RANKS {
         let row = row_in(a, roster);
-        let start = 16 * a;
+        let start = RANKS * a;
         let mut i: usize = 0;
-        while i < 16 {
+        while i < RANKS {
             let v = row[i];
             locations[start + i] = v;
             i += 1;
@@ -214,7 +218,7 @@ fn locations_in(roster: &Roster) -> [Vmid; 256]
 }
 
 // All lines and awaits, out of the roster.
-fn links_in(roster: &Roster) -> [Link; 256]
+fn links_in(roster: &Roster) -> [Link; CELLS]
     requires { ⌜ Whole (now roster) ⌝ }
     ensures { λ links. ⌜ links ≡ ranksOf (now (roster .entry)) .links ⌝ }
 {
@@ -222,9 +226,9 @@ fn links_in(roster: &Roster) -> [Link; 256]
         connection: Connection::Closed,
         backlog: Backlog::Clear,
     };
-    let mut links = [apart; 256];
+    let mut links = [apart; CELLS];
     let mut i: usize = 0;
-    while i < 256 {
+    while i < CELLS {
         let link = decode_link(roster[LINKS + i]);
         links[i] = link;
         i += 1;

@@ -19,6 +19,8 @@ use broker::link::Link;
 use broker::process::Request;
 use broker::process::Status;
 use broker::process::Vmid;
+use transit::CELLS;
+use transit::RANKS;
 use transit::Rank;
 
 // A rank's standing.
@@ -27,7 +29,7 @@ pub fn standing_of(r: Rank, roster: &Roster) -> Status
     ensures { λ s. ⌜ s ≡ status (ranksOf (now (roster .entry))) r ⌝ }
 {
     let i = r.0 as usize;
-    if i < 16 {
+    if i < RANKS {
         return decode_standing(roster[i]);
     }
     Status::Unstarted
@@ -39,7 +41,7 @@ pub fn request_of(r: Rank, roster: &Roster) -> Request
     ensures { λ q. ⌜ q ≡ request (ranksOf (now (roster .entry))) r ⌝ }
 {
     let i = r.0 as usize;
-    if i < 16 {
+    if i < RANKS {
         return decode_request(roster[REQUESTS + i]);
     }
     Request::Absent
@@ -51,7 +53,7 @@ pub fn location_of(a: Rank, b: Rank, roster: &Roster) -> Vmid
     ensures { λ v. ⌜ v ≡ location (ranksOf (now (roster .entry))) a b ⌝ }
 {
     let i = cell(a, b);
-    if i < 256 {
+    if i < CELLS {
         return decode_vmid(roster[LOCATIONS + i]);
     }
     Vmid::unknown()
@@ -63,7 +65,7 @@ pub fn link_between(a: Rank, b: Rank, roster: &Roster) -> Link
     ensures { λ l. ⌜ l ≡ linkAt (ranksOf (now (roster .entry)) .links) a b ⌝ }
 {
     let i = cell(a, b);
-    if i < 256 {
+    if i < CELLS {
         return decode_link(roster[LINKS + i]);
     }
     Link {

@@ -23,6 +23,8 @@ use broker::process::Request;
 use broker::process::Status;
 use broker::process::Vmid;
 use broker::state::Broker;
+use transit::CELLS;
+use transit::RANKS;
 use transit::Rank;
 
 // A rank's standing.
@@ -31,7 +33,7 @@ pub fn set_standing(r: Rank, standing: Status, roster: &mut Roster)
     ensures { λ _. ⌜ Holds (now (roster .exit)) (withStatus r standing (ranksOf (now (roster .entry)))) ⌝ }
 {
     let i = r.0 as usize;
-    if i < 16 {
+    if i < RANKS {
         let w = encode_standing(standing);
         roster[i] = w;
     }
@@ -43,7 +45,7 @@ pub fn set_request(r: Rank, request: Request, roster: &mut Roster)
     ensures { λ _. ⌜ Holds (now (roster .exit)) (withRequest r request (ranksOf (now (roster .entry)))) ⌝ }
 {
     let i = r.0 as usize;
-    if i < 16 {
+    if i < RANKS {
         let w = encode_request(request);
         roster[REQUESTS + i] = w;
     }
@@ -56,7 +58,7 @@ pub fn set_location(a: Rank, b: Rank, vmid: Vmid, roster: &mut Roster)
         (withLocations (set (ranksOf (now (roster .entry)) .locations) (cell a b) vmid) (ranksOf (now (roster .entry)))) ⌝ }
 {
     let i = cell(a, b);
-    if i < 256 {
+    if i < CELLS {
         let w = encode_vmid(vmid);
         roster[LOCATIONS + i] = w;
     }
@@ -69,7 +71,7 @@ pub fn set_link(a: Rank, b: Rank, link: Link, roster: &mut Roster)
         (withLinks (setLink (ranksOf (now (roster .entry)) .links) a b link) (ranksOf (now (roster .entry)))) ⌝ }
 {
     let i = cell(a, b);
-    if i < 256 {
+    if i < CELLS {
         let w = encode_link(link);
         roster[LINKS + i] = w;
     }

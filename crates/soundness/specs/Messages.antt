@@ -5,7 +5,7 @@ use mathlib.Core.List.{List, [], _∷_}
 use Prim.Native.Nat.{ℕ}
 use lib.Dec.{leb}
 use lib.ListN.{getD, set, replicate}
-use Rattle.transit.specs.Message.{number, samePlace}
+use Rattle.transit.specs.Message.{number, samePlace, cells}
 use Rattle.transit.specs.Unread.{Unread, limit}
 use Rattle.transit.specs.declared.Message.{Message}
 use Rattle.transit.specs.declared.Place.{Place}
@@ -51,4 +51,4 @@ rises fits cellOf numberOf last (x ∷ xs) =
 -- "At most 1,024 messages stand."; and "Within a pair, places never fall along the order of sending."
 unfoldable pub messagesSound : List Process → List Link → Unread → Bool
 messagesSound ps ls u =
-    leb (u .count) limit && rises (messageSoundAt ps ls) pairOf number (replicate 256 0) (u .messages)
+    leb (u .count) limit && rises (messageSoundAt ps ls) pairOf number (replicate cells 0) (u .messages)

@@ -7,8 +7,10 @@ use broker::link::Link;
 use broker::process::Process;
 use broker::process::Status;
 use broker::state::Broker;
+use transit::CELLS;
 use transit::Message;
 use transit::Place;
+use transit::RANKS;
 use transit::Transit;
 
 // The message is from a rank to another rank.
@@ -45,7 +47,7 @@ fn message_fits(m: Message, sender: Process, receiver: Process, back: Link) -> b
 
 // Every message, up to the first that fails or is at a lower place than the last of its pair. A message at the place of that last one
 // is not tested again: whether it fits depends on its pair and its place alone.
-pub fn messages_sound(processes: [Process; 16], links: [Link; 256], t: Transit) -> bool
+pub fn messages_sound(processes: [Process; RANKS], links: [Link; CELLS], t: Transit) -> bool
     ensures { λ r. ⌜ r ≡ messagesSound processes links (unreadOf t) ⌝ }
 {
     let count = t.count;
@@ -53,7 +55,7 @@ pub fn messages_sound(processes: [Process; 16], links: [Link; 256], t: Transit) 
         return false;
     }
     // One more than the number of the place of each pair's last message, and 0 where it had none yet.
-    let mut last = [0u8; 256];
+    let mut last = [0u8; CELLS];
     let mut i: usize = 0;
     while i < count {
         let m = t.messages[i];
@@ -62,7 +64,7 @@ pub fn messages_sound(processes: [Process; 16], links: [Link; 256], t: Transit) 
         }
         let from = m.sender.0 as usize;
         let to = m.receiver.0 as usize;
-        let pair = 16 * from + to;
+        let pair = RANKS * from + to;
         let place = m.place;
         let mark = place.number() + 1;
         if last[pair] != mark {
@@ -71,7 +73,7 @@ pub fn messages_sound(processes: [Process; 16], links: [Link; 256], t: Transit) 
             }
             let sender = processes[from];
             let receiver = processes[to];
-            let back = links[16 * to + from];
+            let back = links[RANKS * to + from];
             if !message_fits(m, sender, receiver, back) {
                 return false;
             }

@@ -20,6 +20,8 @@ use broker::process::Process;
 use broker::process::Request;
 use broker::process::Status;
 use broker::process::Vmid;
+use transit::CELLS;
+use transit::RANKS;
 use transit::Rank;
 
 // Where a rank is believed to be: a vmid that is drawn if the rank is started, else nowhere.
@@ -113,21 +115,21 @@ fn pair_sound(
 // Every rank and every rank, up to the first two that fail.
 pub fn pairs_sound(
     drawn: [u16; 8],
-    processes: [Process; 16],
-    locations: [Vmid; 256],
-    links: [Link; 256],
+    processes: [Process; RANKS],
+    locations: [Vmid; CELLS],
+    links: [Link; CELLS],
 ) -> bool
     ensures { λ r. ⌜ r ≡ pairsSound drawn processes locations links ⌝ }
 {
     let mut i: usize = 0;
-    while i < 256 {
-        let a = i / 16;
-        let b = i % 16;
+    while i < CELLS {
+        let a = i / RANKS;
+        let b = i % RANKS;
         let p = processes[a];
         let q = processes[b];
         let location = locations[i];
         let there = links[i];
-        let back = links[16 * b + a];
+        let back = links[RANKS * b + a];
         if !pair_sound(
             drawn,
             Rank(a as u8),

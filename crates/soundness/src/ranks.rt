@@ -7,6 +7,8 @@ use broker::link::Link;
 use broker::process::Process;
 use broker::process::Request;
 use broker::state::Broker;
+use transit::CELLS;
+use transit::RANKS;
 use transit::Rank;
 
 // A request is to a rank, and posted to a vmid that is drawn.
@@ -37,13 +39,13 @@ fn rank_sound(drawn: [u16; 8], r: Rank, p: Process, own: Link) -> bool
 }
 
 // Every rank, up to the first that fails.
-pub fn ranks_sound(drawn: [u16; 8], processes: [Process; 16], links: [Link; 256]) -> bool
+pub fn ranks_sound(drawn: [u16; 8], processes: [Process; RANKS], links: [Link; CELLS]) -> bool
     ensures { λ x. ⌜ x ≡ ranksSound drawn processes links ⌝ }
 {
     let mut i: usize = 0;
-    while i < 16 {
+    while i < RANKS {
         let p = processes[i];
-        let own = links[16 * i + i];
+        let own = links[RANKS * i + i];
         if !rank_sound(drawn, Rank(i as u8), p, own) {
             return false;
         }

@@ -8,6 +8,9 @@ use crate::load::unload;
 use broker::answer::Answer;
 use broker::answer::Refusal;
 use broker::state::Broker;
+use roster::ROSTER_LENGTH;
+use transit::CONTENTS_LENGTH;
+use transit::SLOTS_LENGTH;
 
 pub mod decode;
 pub mod in_place;
@@ -31,9 +34,9 @@ pub fn step(broker: Broker, log: &[u8], at: usize) -> Outcome
     ensures { λ o. ⌜ Stepped (view broker) (now (log .entry)) at (outcome o) ⌝ }
     ensures refused_unchanged { λ o. ⌜ RefusalKeeps (o .answer) broker (o .broker) ⌝ }
 {
-    let mut slots = [0u16; 6914];
-    let mut contents = [0u32; 2048];
-    let mut roster = [0u64; 552];
+    let mut slots = [0u16; SLOTS_LENGTH];
+    let mut contents = [0u32; CONTENTS_LENGTH];
+    let mut roster = [0u64; ROSTER_LENGTH];
     if !load(broker, &mut slots, &mut contents, &mut roster) {
         return Outcome {
             broker: broker,

@@ -1,6 +1,7 @@
 // Between the two forms of one state: the plain one, which is handed over, tested and saved, and the arrays, on which a run works.
 ghost use mathlib.Core.Path.{_≡_};
 ghost use lib.ListN.{length};
+ghost use Rattle.transit.specs.Columns.{SLOTS, slotsLength};
 ghost use Rattle.broker.specs.State.{view, fresh};
 ghost use Rattle.checks.specs.Desk.{deskOf, Desk};
 ghost use Rattle.roster.specs.Roster.{Whole};
@@ -13,8 +14,8 @@ use transit::Slots;
 
 // The fresh state, in the arrays.
 pub fn open_fresh(slots: &mut Slots, contents: &mut Contents, roster: &mut Roster)
-    requires { ⌜ length (now slots) ≡ 6914 ⌝ }
-    requires { ⌜ length (now contents) ≡ 2048 ⌝ }
+    requires { ⌜ length (now slots) ≡ slotsLength ⌝ }
+    requires { ⌜ length (now contents) ≡ SLOTS ⌝ }
     requires { ⌜ Whole (now roster) ⌝ }
     ensures { λ _. ⌜ HoldsState fresh (now (slots .exit)) (now (contents .exit)) (now (roster .exit)) ⌝ }
 {
@@ -24,8 +25,8 @@ pub fn open_fresh(slots: &mut Slots, contents: &mut Contents, roster: &mut Roste
 
 // A state is tested, and where it is sound the arrays hold it.
 pub fn load(broker: Broker, slots: &mut Slots, contents: &mut Contents, roster: &mut Roster) -> bool
-    requires { ⌜ length (now slots) ≡ 6914 ⌝ }
-    requires { ⌜ length (now contents) ≡ 2048 ⌝ }
+    requires { ⌜ length (now slots) ≡ slotsLength ⌝ }
+    requires { ⌜ length (now contents) ≡ SLOTS ⌝ }
     requires { ⌜ Whole (now roster) ⌝ }
     ensures { λ r. ⌜ Loads (view broker) r (now (slots .exit)) (now (contents .exit)) (now (roster .exit)) ⌝ }
 {

@@ -10,6 +10,7 @@ use broker::state::Broker;
 use lent::step_lent;
 use libc::STDIN_FILENO;
 use libc::STDOUT_FILENO;
+use roster::ROSTER_LENGTH;
 use roster::Roster;
 use soundness::is_sound;
 use steps::Outcome;
@@ -17,7 +18,9 @@ use steps::in_place::step_in_place;
 use steps::load::open_fresh;
 use steps::load::unload;
 use steps::step;
+use transit::CONTENTS_LENGTH;
 use transit::Contents;
+use transit::SLOTS_LENGTH;
 use transit::Slots;
 
 // The byte that asks for steps by value.
@@ -144,9 +147,9 @@ fn main() {
     }
     let call = input[0];
     let times = number(input[1], input[2], input[3], input[4]);
-    let mut slots = [0u16; 6914];
-    let mut contents = [0u32; 2048];
-    let mut roster = [0u64; 552];
+    let mut slots = [0u16; SLOTS_LENGTH];
+    let mut contents = [0u32; CONTENTS_LENGTH];
+    let mut roster = [0u64; ROSTER_LENGTH];
     open_fresh(&mut slots, &mut contents, &mut roster);
     lead(&input[HEAD..end], &mut slots, &mut contents, &mut roster);
     let broker = unload(Broker::fresh(), &slots, &contents, &roster);

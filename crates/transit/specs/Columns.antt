@@ -3,6 +3,7 @@
 use mathlib.Core.List.{List, [], _∷_}
 use Prim.Native.Nat.{ℕ, zero, suc, _+_}
 use lib.ListN.{getD, take, drop}
+use Rattle.transit.specs.Message.{cells}
 
 -- parts of given lengths, one behind the other
 abbrev pub parts : List ℕ → List ℕ → List (List ℕ)
@@ -14,6 +15,18 @@ abbrev pub offset : List ℕ → ℕ → ℕ
 offset [] k = 0
 offset (n ∷ ns) zero = 0
 offset (n ∷ ns) (suc k) = n + offset ns k
+
+-- how many slots there are; as a link, no slot
+abbrev pub SLOTS : ℕ
+SLOTS = 2048
+
+-- the number of no pair: a dead slot has it
+abbrev pub DEAD : ℕ
+DEAD = 256
+
+-- how long the array of the columns is
+abbrev pub slotsLength : ℕ
+slotsLength = 6914
 
 -- Where the columns start, behind the pairs of the slots at 0, and where the tail and the number of unread stand.
 abbrev pub PLACES : ℕ
@@ -39,7 +52,7 @@ UNREAD = 6913
 
 -- how long the columns are: three of each slot, three of each pair
 abbrev pub sizes : List ℕ
-sizes = 2048 ∷ 2048 ∷ 2048 ∷ 256 ∷ 256 ∷ 256 ∷ []
+sizes = SLOTS ∷ SLOTS ∷ SLOTS ∷ cells ∷ cells ∷ cells ∷ []
 
 -- of each slot its pair's number, its place's number and the next slot of its pair; of each pair its first slot, its last slot
 -- and how many are unread; the slot behind all live ones, and how many are unread in all

@@ -4,10 +4,10 @@ use mathlib.Core.List.{List, [], _∷_, _++_}
 use mathlib.Core.Path.{_≡_}
 use Prim.Native.Nat.{ℕ, _<_, _≤_}
 use lib.ListN.{length, getD}
-use Rattle.transit.specs.Columns.{columnsOf}
+use Rattle.transit.specs.Columns.{columnsOf, SLOTS, slotsLength}
 use Rattle.transit.specs.Index.{Index}
 use Rattle.base.specs.Lists.{select, tally, without}
-use Rattle.transit.specs.Message.{between, picks}
+use Rattle.transit.specs.Message.{between, picks, cells}
 use Rattle.transit.specs.Slots.{messagesOf}
 use Rattle.transit.specs.Unread.{Unread, counted, limit, head, valueIn, eachTo, firstTo}
 use Rattle.transit.specs.declared.Message.{Message}
@@ -25,11 +25,11 @@ unreadIn slots contents = counted (messagesIn slots contents)
 
 -- what holds of the lent arrays before and after each routine
 pub record Mail (slots contents : List ℕ) : Type 0 where
-  pub slots-long : length slots ≡ 6914
-  pub contents-long : length contents ≡ 2048
+  pub slots-long : length slots ≡ slotsLength
+  pub contents-long : length contents ≡ SLOTS
   pub index : Index (columnsOf slots)
-  pub placed : (k : ℕ) → k < 2048 → getD (columnsOf slots .pairs) k 0 < 256 → getD (columnsOf slots .places) k 0 < 4
-  pub within : columnsOf slots .tail ≤ 2048
+  pub placed : (k : ℕ) → k < SLOTS → getD (columnsOf slots .pairs) k 0 < cells → getD (columnsOf slots .places) k 0 < 4
+  pub within : columnsOf slots .tail ≤ SLOTS
   pub stored : columnsOf slots .unread ≡ length (messagesIn slots contents)
   pub few : length (messagesIn slots contents) ≤ limit
 
@@ -43,7 +43,7 @@ pub record Loaded (l : List Message) (slots contents : List ℕ) : Type 0 where
 pub record Roomy (slots contents slots' contents' : List ℕ) : Type 0 where
   pub kept : Mail slots' contents'
   pub same : messagesIn slots' contents' ≡ messagesIn slots contents
-  pub room : columnsOf slots' .tail < 2048
+  pub room : columnsOf slots' .tail < SLOTS
 
 -- the message is behind all others; n of its pair are unread
 pub record Appended (m : Message) (slots contents : List ℕ) (n : ℕ) (slots' contents' : List ℕ) : Type 0 where

@@ -6,6 +6,7 @@ use Prim.Native.Nat.{ℕ, suc, _+_, _*_, _/_, _%_}
 use lib.Dec.{eqb, ltb}
 use lib.ListN.{getD}
 use Rattle.transit.specs.Columns.{Columns}
+use Rattle.transit.specs.Message.{ranks, cells}
 use Rattle.transit.specs.declared.Message.{Message}
 use Rattle.transit.specs.declared.Place.{Place}
 use Rattle.transit.specs.declared.Place.the-variants.{SourceList, SourceChannel, EndList, Channel}
@@ -14,11 +15,11 @@ use Rattle.transit.specs.declared.Rank.{Rank}
 -- what the live slots hold, in order: a slot whose number is not that of a pair is dead
 abbrev pub held : {A : Type 0} → (ℕ → ℕ → A) → ℕ → List ℕ → List A
 held f i [] = []
-held f i (p ∷ ps) = cond (ltb p 256) (f i p ∷ held f (suc i) ps) (held f (suc i) ps)
+held f i (p ∷ ps) = cond (ltb p cells) (f i p ∷ held f (suc i) ps) (held f (suc i) ps)
 
 -- the number of the pair from a to b
 abbrev pub pairOf : Rank → Rank → ℕ
-pairOf a b = 16 * a .0 + b .0
+pairOf a b = ranks * a .0 + b .0
 
 -- the place of a number
 abbrev pub placeOf : ℕ → Place
@@ -26,7 +27,7 @@ placeOf n = cond (eqb n 0) SourceList (cond (eqb n 1) SourceChannel (cond (eqb n
 
 -- the message of a pair, at the place of a number, with a value
 abbrev pub messageOf : ℕ → ℕ → ℕ → Message
-messageOf p n v = record { sender = record { 0 = p / 16 }; receiver = record { 0 = p % 16 }; place = placeOf n; value = v }
+messageOf p n v = record { sender = record { 0 = p / ranks }; receiver = record { 0 = p % ranks }; place = placeOf n; value = v }
 
 -- the message of a slot of a pair
 abbrev pub messageAt : List ℕ → List ℕ → ℕ → ℕ → Message
@@ -38,4 +39,4 @@ messagesOf c values = held (messageAt (c .places) values) 0 (c .pairs)
 
 -- both ranks of the message are below sixteen
 abbrev pub ranked : Message → Bool
-ranked m = ltb (m .sender .0) 16 && ltb (m .receiver .0) 16
+ranked m = ltb (m .sender .0) ranks && ltb (m .receiver .0) ranks

@@ -2,6 +2,7 @@
 ghost use Prim.Native.Nat.{_<_};
 ghost use lib.ListN.{length};
 ghost use Rattle.transit.specs.Mail.{Mail, messagesIn, Appended, Roomy};
+ghost use Rattle.transit.specs.Message.{ranks};
 ghost use Rattle.transit.specs.Unread.{limit};
 use crate::Contents;
 use crate::Message;
@@ -29,8 +30,8 @@ fn make_room(slots: &mut Slots, contents: &mut Contents)
 pub fn append(m: Message, slots: &mut Slots, contents: &mut Contents) -> u16
     requires { ⌜ Mail (now slots) (now contents) ⌝ }
     requires { ⌜ length (messagesIn (now slots) (now contents)) < limit ⌝ }
-    requires { ⌜ m .sender .0 < 16 ⌝ }
-    requires { ⌜ m .receiver .0 < 16 ⌝ }
+    requires { ⌜ m .sender .0 < ranks ⌝ }
+    requires { ⌜ m .receiver .0 < ranks ⌝ }
     ensures { λ n. ⌜ Appended m (now (slots .entry)) (now (contents .entry)) n (now (slots .exit)) (now (contents .exit)) ⌝ }
 {
     make_room(slots, contents);

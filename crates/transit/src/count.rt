@@ -3,17 +3,19 @@ ghost use mathlib.Core.List.{List};
 ghost use mathlib.Core.Path.{_≡_};
 ghost use Prim.Native.Nat.{ℕ, _<_};
 ghost use lib.ListN.{length};
-ghost use Rattle.transit.specs.Columns.{columnsOf};
+ghost use Rattle.transit.specs.Columns.{columnsOf, SLOTS};
 ghost use Rattle.base.specs.Lists.{tally};
 ghost use Rattle.transit.specs.Mail.{Mail, messagesIn};
-ghost use Rattle.transit.specs.Message.{between, picks};
+ghost use Rattle.transit.specs.Message.{between, picks, ranks};
 ghost use Rattle.transit.specs.Pick.{hits};
 ghost use Rattle.transit.specs.declared.Selection.{Selection};
 use crate::Place;
 use crate::Rank;
 use crate::Slots;
 use crate::layout::COUNT;
+use crate::layout::DEAD;
 use crate::layout::PLACES;
+use crate::layout::ROW;
 use crate::layout::SLOTS;
 use crate::layout::UNREAD;
 use crate::layout::pair_of;
@@ -34,8 +36,8 @@ pub fn unread_between(a: Rank, b: Rank, slots: &Slots) -> u16
     ensures { λ r. ⌜ ((contents : List ℕ) → Mail (now (slots .entry)) contents
         → r ≡ tally (between a b) (messagesIn (now (slots .entry)) contents)) ⌝ }
 {
-    if a.0 < 16 {
-        if b.0 < 16 {
+    if a.0 < Rank::LIMIT {
+        if b.0 < Rank::LIMIT {
             let pair = pair_of(a, b);
             return slots[COUNT + pair];
         }
@@ -45,7 +47,7 @@ pub fn unread_between(a: Rank, b: Rank, slots: &Slots) -> u16
 
 // How many slots are picked.
 fn count_hits(w: Pick, slots: &Slots) -> u16
-    ensures { λ r. ⌜ r ≡ hits w (columnsOf (now (slots .entry))) 2048 ⌝ }
+    ensures { λ r. ⌜ r ≡ hits w (columnsOf (now (slots .entry))) SLOTS ⌝ }
 {
     let mut n: u16 = 0;
     let mut i: usize = 0;
@@ -59,17 +61,17 @@ fn count_hits(w: Pick, slots: &Slots) -> u16
 
 // How many messages from `a` to `b` are unread at a place.
 pub fn count_at(a: Rank, b: Rank, place: Place, slots: &Slots) -> u16
-    requires { ⌜ a .0 < 16 ⌝ }
-    requires { ⌜ b .0 < 16 ⌝ }
+    requires { ⌜ a .0 < ranks ⌝ }
+    requires { ⌜ b .0 < ranks ⌝ }
     ensures { λ r. ⌜ ((contents : List ℕ) → Mail (now (slots .entry)) contents
         → r ≡ tally (picks (Selection.BetweenAt a b place)) (messagesIn (now (slots .entry)) contents)) ⌝ }
 {
-    let low = 16 * (a.0 as u16);
+    let low = ROW * (a.0 as u16);
     let number = place.number();
     count_hits(
         Pick {
             low: low,
-            high: low + 16,
+            high: low + ROW,
             receiver: b.0 as u16,
             place: number as u16,
         },
@@ -79,7 +81,7 @@ pub fn count_at(a: Rank, b: Rank, place: Place, slots: &Slots) -> u16
 
 // How many messages to `r` are unread at a place.
 pub fn count_to(r: Rank, place: Place, slots: &Slots) -> u16
-    requires { ⌜ r .0 < 16 ⌝ }
+    requires { ⌜ r .0 < ranks ⌝ }
     ensures { λ n. ⌜ ((contents : List ℕ) → Mail (now (slots .entry)) contents
         → n ≡ tally (picks (Selection.ToAt r place)) (messagesIn (now (slots .entry)) contents)) ⌝ }
 {
@@ -87,7 +89,7 @@ pub fn count_to(r: Rank, place: Place, slots: &Slots) -> u16
     count_hits(
         Pick {
             low: 0,
-            high: 256,
+            high: DEAD,
             receiver: r.0 as u16,
             place: number as u16,
         },

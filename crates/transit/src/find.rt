@@ -3,12 +3,14 @@ ghost use mathlib.Core.Path.{_≡_};
 ghost use Prim.Native.Nat.{_<_};
 ghost use Rattle.transit.specs.Columns.{columnsOf};
 ghost use Rattle.transit.specs.Mail.{Mail, unreadIn};
+ghost use Rattle.transit.specs.Message.{ranks};
 ghost use Rattle.transit.specs.Search.{Oldest};
 ghost use Rattle.transit.specs.Unread.{firstSent};
 ghost use Rattle.transit.specs.declared.Selection.{Selection};
 use crate::Contents;
 use crate::Found;
 use crate::Place;
+use crate::RANKS;
 use crate::Rank;
 use crate::Slots;
 use crate::layout::FIRST;
@@ -25,10 +27,10 @@ pub fn first_at(a: Rank, b: Rank, place: Place, slots: &Slots, contents: &Conten
     requires { ⌜ Mail (now slots) (now contents) ⌝ }
     ensures { λ r. ⌜ r ≡ firstSent (Selection.BetweenAt a b place) (unreadIn (now (slots .entry)) (now (contents .entry))) ⌝ }
 {
-    if 16 <= a.0 {
+    if Rank::LIMIT <= a.0 {
         return Found::Nothing;
     }
-    if 16 <= b.0 {
+    if Rank::LIMIT <= b.0 {
         return Found::Nothing;
     }
     let pair = pair_of(a, b);
@@ -43,13 +45,13 @@ pub fn first_at(a: Rank, b: Rank, place: Place, slots: &Slots, contents: &Conten
 
 // The first slot of a message to `r`: the least of its sixteen pairs' first slots.
 fn oldest(r: usize, slots: &Slots) -> u16
-    requires { ⌜ r < 16 ⌝ }
-    ensures { λ k. ⌜ Oldest (columnsOf (now (slots .entry))) r 16 k ⌝ }
+    requires { ⌜ r < ranks ⌝ }
+    ensures { λ k. ⌜ Oldest (columnsOf (now (slots .entry))) r ranks k ⌝ }
 {
     let mut best = NONE;
     let mut s: usize = 0;
-    while s < 16 {
-        let first = slots[FIRST + (16 * s + r)];
+    while s < RANKS {
+        let first = slots[FIRST + (RANKS * s + r)];
         if first < best {
             best = first;
         }
@@ -63,7 +65,7 @@ pub fn first_to(r: Rank, slots: &Slots, contents: &Contents) -> Found
     requires { ⌜ Mail (now slots) (now contents) ⌝ }
     ensures { λ f. ⌜ f ≡ firstSent (Selection.To r) (unreadIn (now (slots .entry)) (now (contents .entry))) ⌝ }
 {
-    if 16 <= r.0 {
+    if Rank::LIMIT <= r.0 {
         return Found::Nothing;
     }
     let at = wide(oldest(r.0 as usize, slots));

@@ -1,9 +1,11 @@
 // Where the columns of the slots start, the numbers that stand for nothing, and the numbers of pairs and places.
 ghost use mathlib.Core.Path.{_≡_};
 ghost use Prim.Native.Nat.{_<_};
+ghost use Rattle.transit.specs.Message.{ranks, cells};
 ghost use Rattle.transit.specs.Slots.{pairOf, placeOf, messageOf};
 use crate::Message;
 use crate::Place;
+use crate::RANKS;
 use crate::Rank;
 
 // How many slots there are.
@@ -26,21 +28,22 @@ pub const TAIL: usize = 6912;
 
 pub const UNREAD: usize = 6913;
 
-// How many pairs there are; a slot of that number's pair is dead.
-pub const PAIRS: usize = 256;
-
+// The number of no pair: a slot that has it is dead.
 pub const DEAD: u16 = 256;
+
+// A row of pairs: those from one sender.
+pub const ROW: u16 = 16;
 
 // No slot: behind the last message of a pair, and of a pair that has none.
 pub const NONE: u16 = 2048;
 
 // The number of the pair from `a` to `b`.
 pub fn pair_of(a: Rank, b: Rank) -> usize
-    requires { ⌜ a .0 < 16 ⌝ }
-    requires { ⌜ b .0 < 16 ⌝ }
+    requires { ⌜ a .0 < ranks ⌝ }
+    requires { ⌜ b .0 < ranks ⌝ }
     ensures { λ r. ⌜ r ≡ pairOf a b ⌝ }
 {
-    16 * (a.0 as usize) + (b.0 as usize)
+    RANKS * (a.0 as usize) + (b.0 as usize)
 }
 
 // A stored number as an index or a count, whatever it is.
@@ -68,11 +71,11 @@ fn place_of(n: u16) -> Place
 
 // The message of a slot of a pair.
 pub fn message_of(pair: u16, place: u16, value: u32) -> Message
-    requires { ⌜ pair < 256 ⌝ }
+    requires { ⌜ pair < cells ⌝ }
     ensures { λ r. ⌜ r ≡ messageOf pair place value ⌝ }
 {
-    let from = (pair / 16) as u8;
-    let to = (pair % 16) as u8;
+    let from = (pair / ROW) as u8;
+    let to = (pair % ROW) as u8;
     let at = place_of(place);
     Message {
         sender: Rank(from),

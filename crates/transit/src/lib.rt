@@ -18,6 +18,17 @@ mod walk;
 // The number by which processes are named at the upper of the two levels of name.
 pub struct Rank(pub u8);
 
+// Paper 01: "Ranks are 0 to 15."
+pub const RANKS: usize = 16;
+
+// The ordered pairs of ranks: sixteen rows of sixteen.
+pub const CELLS: usize = 256;
+
+// How long the two arrays are that a run works on.
+pub const SLOTS_LENGTH: usize = 6914;
+
+pub const CONTENTS_LENGTH: usize = 2048;
+
 // Where an unread message is held: paper 01's places 0 to 3, in this order.
 pub enum Place {
     // 0, the mover's list: already read from the channel by the source process of a migration.
@@ -54,16 +65,21 @@ pub enum Found {
 
 // The messages as they are handed over and saved: in the first `count` slots, in order of sending. The other slots mean nothing.
 pub struct Transit {
-    pub messages: [Message; 1024],
+    pub messages: [Message; Transit::LIMIT],
     pub count: usize,
 }
 
 // The messages as a run works on them: 2,048 slots in order of sending, of which those are dead whose message has left. The columns
 // are each slot's pair, place and next slot of the pair, each pair's first slot, last slot and count, the tail and the number unread.
-pub type Slots = [u16; 6914];
+pub type Slots = [u16; SLOTS_LENGTH];
 
 // The value of each slot's message.
-pub type Contents = [u32; 2048];
+pub type Contents = [u32; CONTENTS_LENGTH];
+
+impl Rank {
+    // The first number that is no rank.
+    pub const LIMIT: u8 = 16;
+}
 
 impl Place {
     // Paper 01's number of a place.
@@ -94,7 +110,7 @@ impl Transit {
             place: Place::EndList,
         };
         Transit {
-            messages: [unused; 1024],
+            messages: [unused; Transit::LIMIT],
             count: 0,
         }
     }

@@ -5,9 +5,11 @@ ghost use mathlib.Core.Path.{_≡_};
 ghost use Prim.Native.Nat.{ℕ, _≤_};
 ghost use lib.ListN.{length};
 ghost use Rattle.base.specs.Lists.{every};
+ghost use Rattle.transit.specs.Columns.{SLOTS, slotsLength};
 ghost use Rattle.transit.specs.Mail.{Mail, unreadIn, Loaded};
 ghost use Rattle.transit.specs.Slots.{ranked};
 ghost use Rattle.transit.specs.Unread.{unreadOf, limit};
+use crate::CELLS;
 use crate::Contents;
 use crate::Slots;
 use crate::Transit;
@@ -15,7 +17,6 @@ use crate::layout::COUNT;
 use crate::layout::DEAD;
 use crate::layout::FIRST;
 use crate::layout::NONE;
-use crate::layout::PAIRS;
 use crate::layout::PLACES;
 use crate::layout::SLOTS;
 use crate::layout::TAIL;
@@ -25,8 +26,8 @@ use crate::tail::put;
 
 // No message is unread.
 pub fn clear(slots: &mut Slots)
-    requires { ⌜ length (now slots) ≡ 6914 ⌝ }
-    ensures { λ _. ⌜ ((contents : List ℕ) → length contents ≡ 2048 → Loaded [] (now (slots .exit)) contents) ⌝ }
+    requires { ⌜ length (now slots) ≡ slotsLength ⌝ }
+    ensures { λ _. ⌜ ((contents : List ℕ) → length contents ≡ SLOTS → Loaded [] (now (slots .exit)) contents) ⌝ }
 {
     let mut i: usize = 0;
     while i < SLOTS {
@@ -34,7 +35,7 @@ pub fn clear(slots: &mut Slots)
         i += 1;
     }
     let mut p: usize = 0;
-    while p < PAIRS {
+    while p < CELLS {
         slots[FIRST + p] = NONE;
         slots[COUNT + p] = 0;
         p += 1;
@@ -45,8 +46,8 @@ pub fn clear(slots: &mut Slots)
 
 // The messages of a value stand in the slots, packed to the front.
 pub fn load(t: Transit, slots: &mut Slots, contents: &mut Contents)
-    requires { ⌜ length (now slots) ≡ 6914 ⌝ }
-    requires { ⌜ length (now contents) ≡ 2048 ⌝ }
+    requires { ⌜ length (now slots) ≡ slotsLength ⌝ }
+    requires { ⌜ length (now contents) ≡ SLOTS ⌝ }
     requires { ⌜ t .count ≤ limit ⌝ }
     requires { ⌜ every ranked (unreadOf t .messages) ≡ true ⌝ }
     ensures { λ _. ⌜ Loaded (unreadOf t .messages) (now (slots .exit)) (now (contents .exit)) ⌝ }

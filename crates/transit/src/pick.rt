@@ -2,6 +2,7 @@
 ghost use mathlib.Core.Path.{_≡_};
 ghost use mathlib.Core.Bool.{cond};
 ghost use Rattle.transit.specs.Pick.{picked};
+use crate::layout::ROW;
 
 // The slots of a pair number from `low` up to `high` that are to `receiver`, at the place of a number.
 pub struct Pick {
@@ -15,7 +16,7 @@ pub struct Pick {
 pub fn picked(w: Pick, pair: u16, place: u16) -> bool
     ensures { λ r. ⌜ r ≡ picked w pair place ⌝ }
 {
-    (w.low <= pair) & (pair < w.high) & (pair % 16 == w.receiver) & (place == w.place)
+    (w.low <= pair) & (pair < w.high) & (pair % ROW == w.receiver) & (place == w.place)
 }
 
 // 1 where a slot is picked, and 0 elsewhere.

@@ -3,13 +3,17 @@ ghost use mathlib.Core.List.{List};
 ghost use mathlib.Core.Path.{_≡_};
 ghost use Prim.Native.Nat.{ℕ, _<_};
 ghost use lib.ListN.{length};
+ghost use Rattle.transit.specs.Columns.{SLOTS, slotsLength};
 ghost use Rattle.transit.specs.Mail.{Mail, Relabelled, FirstRelabelled};
+ghost use Rattle.transit.specs.Message.{ranks};
 ghost use Rattle.transit.specs.Pick.{Passed};
 ghost use Rattle.transit.specs.declared.Selection.{Selection};
 use crate::Place;
 use crate::Rank;
 use crate::Slots;
+use crate::layout::DEAD;
 use crate::layout::PLACES;
+use crate::layout::ROW;
 use crate::layout::SLOTS;
 use crate::layout::pair_of;
 use crate::pick::Pick;
@@ -20,7 +24,7 @@ use crate::walk::seek;
 
 // The picked slots go to the place of a number; how many.
 fn pass(w: Pick, to: u16, slots: &mut Slots) -> u16
-    ensures { λ n. ⌜ (length (now (slots .entry)) ≡ 6914 → Passed w to (now (slots .entry)) 2048 n (now (slots .exit))) ⌝ }
+    ensures { λ n. ⌜ (length (now (slots .entry)) ≡ slotsLength → Passed w to (now (slots .entry)) SLOTS n (now (slots .exit))) ⌝ }
 {
     let mut n: u16 = 0;
     let mut i: usize = 0;
@@ -36,18 +40,18 @@ fn pass(w: Pick, to: u16, slots: &mut Slots) -> u16
 
 // The messages from `a` to `b` at one place go to another; how many.
 pub fn relabel_between(a: Rank, b: Rank, from: Place, to: Place, slots: &mut Slots) -> u16
-    requires { ⌜ a .0 < 16 ⌝ }
-    requires { ⌜ b .0 < 16 ⌝ }
+    requires { ⌜ a .0 < ranks ⌝ }
+    requires { ⌜ b .0 < ranks ⌝ }
     ensures { λ n. ⌜ ((contents : List ℕ) → Mail (now (slots .entry)) contents
         → Relabelled (Selection.BetweenAt a b from) to (now (slots .entry)) contents n (now (slots .exit))) ⌝ }
 {
-    let low = 16 * (a.0 as u16);
+    let low = ROW * (a.0 as u16);
     let number = from.number();
     let target = to.number();
     pass(
         Pick {
             low: low,
-            high: low + 16,
+            high: low + ROW,
             receiver: b.0 as u16,
             place: number as u16,
         },
@@ -58,7 +62,7 @@ pub fn relabel_between(a: Rank, b: Rank, from: Place, to: Place, slots: &mut Slo
 
 // The messages to `r` at one place go to another; how many.
 pub fn relabel_to(r: Rank, from: Place, to: Place, slots: &mut Slots) -> u16
-    requires { ⌜ r .0 < 16 ⌝ }
+    requires { ⌜ r .0 < ranks ⌝ }
     ensures { λ n. ⌜ ((contents : List ℕ) → Mail (now (slots .entry)) contents
         → Relabelled (Selection.ToAt r from) to (now (slots .entry)) contents n (now (slots .exit))) ⌝ }
 {
@@ -67,7 +71,7 @@ pub fn relabel_to(r: Rank, from: Place, to: Place, slots: &mut Slots) -> u16
     pass(
         Pick {
             low: 0,
-            high: 256,
+            high: DEAD,
             receiver: r.0 as u16,
             place: number as u16,
         },
@@ -78,8 +82,8 @@ pub fn relabel_to(r: Rank, from: Place, to: Place, slots: &mut Slots) -> u16
 
 // The first message from `a` to `b` at one place goes to another.
 pub fn relabel_first(a: Rank, b: Rank, from: Place, to: Place, slots: &mut Slots)
-    requires { ⌜ a .0 < 16 ⌝ }
-    requires { ⌜ b .0 < 16 ⌝ }
+    requires { ⌜ a .0 < ranks ⌝ }
+    requires { ⌜ b .0 < ranks ⌝ }
     ensures { λ _. ⌜ ((contents : List ℕ) → Mail (now (slots .entry)) contents
         → FirstRelabelled (Selection.BetweenAt a b from) to (now (slots .entry)) contents (now (slots .exit))) ⌝ }
 {

@@ -2,7 +2,7 @@
 ghost use Prim.Native.Nat.{_<_};
 ghost use Rattle.base.specs.Lists.{tally};
 ghost use Rattle.transit.specs.Mail.{Mail, messagesIn, Left};
-ghost use Rattle.transit.specs.Message.{between};
+ghost use Rattle.transit.specs.Message.{between, ranks};
 use crate::Contents;
 use crate::Rank;
 use crate::Slots;
@@ -22,8 +22,8 @@ pub struct Removed {
 // The first message from `a` to `b` leaves.
 pub fn remove(a: Rank, b: Rank, slots: &mut Slots, contents: &Contents) -> Removed
     requires { ⌜ Mail (now slots) (now contents) ⌝ }
-    requires { ⌜ a .0 < 16 ⌝ }
-    requires { ⌜ b .0 < 16 ⌝ }
+    requires { ⌜ a .0 < ranks ⌝ }
+    requires { ⌜ b .0 < ranks ⌝ }
     requires { ⌜ 0 < tally (between a b) (messagesIn (now slots) (now contents)) ⌝ }
     ensures { λ r. ⌜ Left a b (now (slots .entry)) (now (contents .entry)) (r .value) (r .left) (now (slots .exit)) ⌝ }
 {

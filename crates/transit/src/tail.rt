@@ -2,8 +2,9 @@
 ghost use mathlib.Core.Path.{_≡_};
 ghost use Prim.Native.Nat.{_<_, _+_};
 ghost use lib.ListN.{length};
-ghost use Rattle.transit.specs.Columns.{columnsOf};
+ghost use Rattle.transit.specs.Columns.{columnsOf, SLOTS};
 ghost use Rattle.transit.specs.Mail.{Mail, messagesIn, Appended};
+ghost use Rattle.transit.specs.Message.{ranks};
 ghost use Rattle.transit.specs.Unread.{limit};
 use crate::Contents;
 use crate::Message;
@@ -21,10 +22,10 @@ use crate::layout::pair_of;
 // The message stands at the tail, where there is room; how many of its pair are unread then.
 pub fn put(m: Message, slots: &mut Slots, contents: &mut Contents) -> u16
     requires { ⌜ Mail (now slots) (now contents) ⌝ }
-    requires { ⌜ columnsOf (now slots) .tail < 2048 ⌝ }
+    requires { ⌜ columnsOf (now slots) .tail < SLOTS ⌝ }
     requires { ⌜ length (messagesIn (now slots) (now contents)) < limit ⌝ }
-    requires { ⌜ m .sender .0 < 16 ⌝ }
-    requires { ⌜ m .receiver .0 < 16 ⌝ }
+    requires { ⌜ m .sender .0 < ranks ⌝ }
+    requires { ⌜ m .receiver .0 < ranks ⌝ }
     ensures { λ n. ⌜ Appended m (now (slots .entry)) (now (contents .entry)) n (now (slots .exit)) (now (contents .exit)) ⌝ }
     ensures further { λ n. ⌜ columnsOf (now (slots .exit)) .tail ≡ columnsOf (now (slots .entry)) .tail + 1 ⌝ }
 {

@@ -2,6 +2,7 @@
 ghost use Prim.Native.Nat.{_<_};
 ghost use Rattle.transit.specs.Columns.{columnsOf};
 ghost use Rattle.transit.specs.Index.{Index};
+ghost use Rattle.transit.specs.Message.{cells};
 ghost use Rattle.transit.specs.Search.{Reached};
 use crate::Slots;
 use crate::layout::FIRST;
@@ -12,7 +13,7 @@ use crate::layout::wide;
 
 // The first slot of a pair at the place of a number, or 2,048. A link that leads back, which no index has, ends the walk.
 pub fn seek(pair: usize, place: u16, slots: &Slots) -> usize
-    requires { ⌜ pair < 256 ⌝ }
+    requires { ⌜ pair < cells ⌝ }
     ensures { λ r. ⌜ (Index (columnsOf (now (slots .entry))) → Reached (columnsOf (now (slots .entry))) pair place r) ⌝ }
 {
     let mut at = wide(slots[FIRST + pair]);

@@ -9,7 +9,7 @@ use borrow.Author.Tests.{ltb-true, lt-ltb, leb-false, lt-leb, eqb-true, eq-eqb, 
 use lib.Dec.{eqb, leb, ltb}
 use Rattle.base.specs.Laws.Tests.{both, both-left, both-right, not-both, or-false-left}
 use Rattle.base.specs.Lists.{tally, every}
-use Rattle.transit.specs.Message.{sameRank, between, to, at, isRank}
+use Rattle.transit.specs.Message.{sameRank, between, to, at, isRank, ranks}
 use Rattle.transit.specs.Unread.{limit}
 use Rattle.transit.specs.declared.Place.the-variants.{SourceChannel}
 use Rattle.transit.specs.declared.Rank.{Rank}
@@ -79,18 +79,18 @@ open-not-closing Closing h = absurd (not-both h refl)
 
 -- one rank that is in range and started; two, that are not one and the same
 pub record One (s : State) (r : Rank) : Type 0 where
-  pub in-range : r .0 < 16
+  pub in-range : r .0 < ranks
   pub started : isStarted (status s r) ≡ true
 
 pub record Two (s : State) (a b : Rank) : Type 0 where
-  pub first : a .0 < 16
-  pub second : b .0 < 16
+  pub first : a .0 < ranks
+  pub second : b .0 < ranks
   pub apart : sameRank a b ≡ false
   pub first-started : isStarted (status s a) ≡ true
   pub second-started : isStarted (status s b) ≡ true
 
 pub record StartFits (s : State) (r : Rank) (h : ℕ) : Type 0 where
-  pub in-range : r .0 < 16
+  pub in-range : r .0 < ranks
   pub host : h < 8
   pub unstarted : isStarted (status s r) ≡ false
   pub room : drawnOn s h < numbers
@@ -138,7 +138,7 @@ pub record DrainFits (s : State) (r p : Rank) : Type 0 where
 pub record LandFits (s : State) (r : Rank) : Type 0 where
   pub one : One s r
   pub migrating : isMigrating (status s r) ≡ true
-  pub clear : (p : Rank) → p .0 < 16 → isClear (backlog s r p) ≡ true
+  pub clear : (p : Rank) → p .0 < ranks → isClear (backlog s r p) ≡ true
 
 pub record PartFits (s : State) (a b : Rank) : Type 0 where
   pub two : Two s a b
@@ -148,7 +148,7 @@ pub record PartFits (s : State) (a b : Rank) : Type 0 where
 pub record EndFits (s : State) (r : Rank) : Type 0 where
   pub one : One s r
   pub running : isRunning (status s r) ≡ true
-  pub closed : (p : Rank) → p .0 < 16 → isClosed (connection s r p) ≡ true
+  pub closed : (p : Rank) → p .0 < ranks → isClosed (connection s r p) ≡ true
   pub idle : isOpenRequest (request s r) ≡ false
   pub nothing : eqb (tally (to r) (messages s)) 0 ≡ true
 
@@ -170,15 +170,15 @@ or-none a h = or-false-left a false h
 one-of : (s : State) (r : Rank) → not (isRank r && true) ≡ false → not (isStarted (status s r) && true) ≡ false → One s r
 one-of s r h k =
     record {
-      in-range = ltb-true (r .0) 16 (one-only (isRank r) (from-not _ h));
+      in-range = ltb-true (r .0) ranks (one-only (isRank r) (from-not _ h));
       started = one-only (isStarted (status s r)) (from-not _ k);
     }
 
 two-of : (s : State) (a b : Rank) → not (isRank a && (isRank b && true)) ≡ false → (sameRank a b || false) ≡ false → not (isStarted (status s a) && (isStarted (status s b) && true)) ≡ false → Two s a b
 two-of s a b h e k =
     record {
-      first = ltb-true (a .0) 16 (both-left (isRank a) (isRank b && true) (from-not _ h));
-      second = ltb-true (b .0) 16 (one-only (isRank b) (both-right (isRank a) (isRank b && true) (from-not _ h)));
+      first = ltb-true (a .0) ranks (both-left (isRank a) (isRank b && true) (from-not _ h));
+      second = ltb-true (b .0) ranks (one-only (isRank b) (both-right (isRank a) (isRank b && true) (from-not _ h)));
       apart = or-none (sameRank a b) e;
       first-started = both-left (isStarted (status s a)) (isStarted (status s b) && true) (from-not _ k);
       second-started =
@@ -189,7 +189,7 @@ pub start-fits : (s : State) (r : Rank) (h : ℕ) → Passes s (Start r h) → S
 unfolding rankRange hostRange alreadyStarted numbersSpent
 start-fits s r h p =
     record {
-      in-range = ltb-true (r .0) 16 (one-only (isRank r) (from-not _ (p .rank-range)));
+      in-range = ltb-true (r .0) ranks (one-only (isRank r) (from-not _ (p .rank-range)));
       host = ltb-true h 8 (one-only (ltb h hosts) (from-not _ (p .host-range)));
       unstarted = p .already-started;
       room = leb-false numbers (drawnOn s h) (or-none (leb numbers (drawnOn s h)) (p .numbers-spent));

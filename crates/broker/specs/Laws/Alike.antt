@@ -9,7 +9,7 @@ use lib.ListN.{length, length-map, getD}
 use Rattle.base.specs.Laws.Lists.{select-map}
 use Rattle.base.specs.Laws.Tests.{both-left, not-both, or-right}
 use Rattle.base.specs.Lists.{tally}
-use Rattle.transit.specs.Message.{between, to}
+use Rattle.transit.specs.Message.{between, to, ranks}
 use Rattle.transit.specs.declared.Message.{Message}
 use Rattle.transit.specs.declared.Rank.{Rank}
 use Rattle.broker.specs.Checks.{refusal}
@@ -64,10 +64,10 @@ peer-lives s a b h f = at (connection s a b) refl (f .line)
     pairs : Pairs s
     pairs = facts s h .pairs
 
-    first : a .0 < 16
+    first : a .0 < ranks
     first = f .two .first
 
-    second : b .0 < 16
+    second : b .0 < ranks
     second = f .two .second
 
     awaited : (g : Backlog) (m t : Bool) → Bool·beq (isUnheeded g) true ≡ true → (isClear g || m && t) ≡ true → m ≡ true
@@ -88,20 +88,20 @@ peer-lives s a b h f = at (connection s a b) refl (f .line)
 -- A state s, and a state x with the same standings, settled, in which nobody migrates.
 module _ (s x : State) (standing : core x .statuses ≡ core s .statuses) {q : Rank → Request} {l : Rank → Rank → Connection} (c : Calm x nobody q l) where
   -- x has the standings of s, settled: who is started is so in both, and who lives in s runs in x.
-  pub status-alike : (r : Rank) → r .0 < 16 → status x r ≡ settled (status s r)
+  pub status-alike : (r : Rank) → r .0 < ranks → status x r ≡ settled (status s r)
   status-alike r hr =
       sym (settled-unless-migrating (status x r) (c .migrating r hr)) ∙
       sym (core-status x r) ∙
       ap (λ (ts : List Status). getD ts (r .0) Unstarted) standing ∙
       core-status s r
 
-  started-alike : (r : Rank) → r .0 < 16 → isStarted (status x r) ≡ isStarted (status s r)
+  started-alike : (r : Rank) → r .0 < ranks → isStarted (status x r) ≡ isStarted (status s r)
   started-alike r hr = rw (status-alike r hr) (started-settled (status s r))
 
-  live-runs : (r : Rank) → r .0 < 16 → isLive (status s r) ≡ true → isRunning (status x r) ≡ true
+  live-runs : (r : Rank) → r .0 < ranks → isLive (status s r) ≡ true → isRunning (status x r) ≡ true
   live-runs r hr h = rw (status-alike r hr, live-settled (status s r)) h
 
-  running-alike : (r : Rank) → r .0 < 16 → isRunning (status s r) ≡ true → isRunning (status x r) ≡ true
+  running-alike : (r : Rank) → r .0 < ranks → isRunning (status s r) ≡ true → isRunning (status x r) ≡ true
   running-alike r hr h = live-runs r hr (live-of-running (status s r) h)
 
   one-alike : (r : Rank) → One s r → One x r
@@ -191,7 +191,7 @@ module _ (s x : State) (same : core x ≡ core s) (c : AllQuiet x) where
       })
 
 -- Where a rank migrates and nothing is awaited, its landing is accepted.
-pub land-after : (x : State) (r : Rank) → r .0 < 16 → Moving x r → refusal x (Land r) ≡ none
+pub land-after : (x : State) (r : Rank) → r .0 < ranks → Moving x r → refusal x (Land r) ≡ none
 land-after x r hr c =
     let migrates : isMigrating (status x r) ≡ true = c .migrating r hr ∙ rw (sameRank-self r) in
     land-accepted x r
@@ -206,10 +206,10 @@ module _ (s : State) (a b : Rank) (v : ℕ) (p : refusal s (Send a b v) ≡ none
   fits : SendFits s a b
   fits = send-fits s a b v (passes s (Send a b v) p)
 
-  first : a .0 < 16
+  first : a .0 < ranks
   first = fits .two .first
 
-  second : b .0 < 16
+  second : b .0 < ranks
   second = fits .two .second
 
   pub call-before : AllQuiet x → refusal x (Call a b) ≡ none

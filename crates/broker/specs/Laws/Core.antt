@@ -10,7 +10,7 @@ use Rattle.transit.specs.Laws.Order.{place-order-is-list-order}
 use Rattle.transit.specs.Laws.Pairs.{values}
 use Rattle.base.specs.Laws.Tests.{by-test}
 use Rattle.base.specs.Lists.{without}
-use Rattle.transit.specs.Message.{between, picks, placeOrder, relabelled}
+use Rattle.transit.specs.Message.{between, picks, placeOrder, relabelled, ranks}
 use Rattle.transit.specs.Unread.{eachTo, firstTo}
 use Rattle.transit.specs.declared.Message.{Message}
 use Rattle.transit.specs.declared.Place.{Place}
@@ -117,7 +117,7 @@ endpoint-settled (Migrating v w) = refl
 endpoint-settled (Ended v) = refl
 
 -- In a sound state place order is the order of sending, so the values that are unread are those of the letters.
-pub unread-values : (s : State) (a b : Rank) → sound s ≡ true → a .0 < 16 → b .0 < 16 → map (λ (m : Message). m .value) (placeOrder (Between a b) (messages s)) ≡ valuesBetween a b (core s)
+pub unread-values : (s : State) (a b : Rank) → sound s ≡ true → a .0 < ranks → b .0 < ranks → map (λ (m : Message). m .value) (placeOrder (Between a b) (messages s)) ≡ valuesBetween a b (core s)
 unread-values s a b h ha hb =
     rw (
       place-order-is-list-order (Between a b) (messages s) (facts s h .mail .places-rise a b ha hb),

@@ -12,7 +12,7 @@ use lib.ListN.{length, getD, set, length-set}
 use lib.Seq.{getD-set-same, getD-set-other}
 use Rattle.base.specs.Laws.Below.{eachBelow-makes}
 use Rattle.base.specs.Laws.Stores.{long-set, store-again}
-use Rattle.transit.specs.Message.{sameRank, rank}
+use Rattle.transit.specs.Message.{sameRank, rank, ranks, cells}
 use Rattle.transit.specs.declared.Rank.{Rank}
 use Rattle.broker.specs.Laws.Ranks.{eachRank-keeps}
 use Rattle.broker.specs.Laws.State.{cell-below}
@@ -23,32 +23,32 @@ use Rattle.base.specs.Below.{eachBelow}
 use Rattle.broker.specs.State.{cell}
 use Rattle.broker.specs.declared.process.Vmid.{Vmid}
 
-pub eachRank-makes : {A : Type 0} (P : A → Type 0) (f : Rank → A → A) (x : A) (r : Rank) → r .0 < 16 → ((y : A) → P (f r y)) → ((p : Rank) (y : A) → P y → P (f p y)) → P (eachRank f x)
+pub eachRank-makes : {A : Type 0} (P : A → Type 0) (f : Rank → A → A) (x : A) (r : Rank) → r .0 < ranks → ((y : A) → P (f r y)) → ((p : Rank) (y : A) → P y → P (f p y)) → P (eachRank f x)
 unfolding eachRank
 eachRank-makes P f x r b make keep =
-    eachBelow-makes P 16 (λ n. f (rank n)) x (r .0) b make (λ j y. keep (rank j) y)
+    eachBelow-makes P ranks (λ n. f (rank n)) x (r .0) b make (λ j y. keep (rank j) y)
 
-module _ (r : Rank) (v : Vmid) (ls : List Vmid) (long : length ls ≡ 256) where
+module _ (r : Rank) (v : Vmid) (ls : List Vmid) (long : length ls ≡ cells) where
   -- the tables are as long after an announcement
-  pub announced-long : length (announced r v ls) ≡ 256
+  pub announced-long : length (announced r v ls) ≡ cells
   unfolding announced
   announced-long =
-      eachRank-keeps (λ (l : List Vmid). length l ≡ 256) (λ p l. set l (cell p r) v) ls long (λ p l. long-set 256 l (cell p r) v)
+      eachRank-keeps (λ (l : List Vmid). length l ≡ cells) (λ p l. set l (cell p r) v) ls long (λ p l. long-set cells l (cell p r) v)
 
   -- everybody's entry for r is what was announced
-  pub announced-own : (a : Rank) → a .0 < 16 → r .0 < 16 → getD (announced r v ls) (cell a r) unknown ≡ v
+  pub announced-own : (a : Rank) → a .0 < ranks → r .0 < ranks → getD (announced r v ls) (cell a r) unknown ≡ v
   unfolding announced
   announced-own a ha hr =
-      eachRank-makes (λ (l : List Vmid). length l ≡ 256 → getD l (cell a r) unknown ≡ v) (λ p l. set l (cell p r) v) ls a ha
+      eachRank-makes (λ (l : List Vmid). length l ≡ cells → getD l (cell a r) unknown ≡ v) (λ p l. set l (cell p r) v) ls a ha
       (λ l e. getD-set-same l (cell a r) v unknown (below a l e))
       (λ p l before e. store-again l (cell p r) (cell a r) v unknown (below p l e) (before (rw length-set at e)))
       announced-long
     where
-      below : (p : Rank) (l : List Vmid) → length (set l (cell p r) v) ≡ 256 → cell a r < length l
+      below : (p : Rank) (l : List Vmid) → length (set l (cell p r) v) ≡ cells → cell a r < length l
       below p l e = rw (rw length-set at e) (cell-below a r ha hr)
 
   -- and every other entry is what it was
-  pub announced-other : (a b : Rank) → b .0 < 16 → r .0 < 16 → sameRank b r ≡ false → getD (announced r v ls) (cell a b) unknown ≡ getD ls (cell a b) unknown
+  pub announced-other : (a b : Rank) → b .0 < ranks → r .0 < ranks → sameRank b r ≡ false → getD (announced r v ls) (cell a b) unknown ≡ getD ls (cell a b) unknown
   unfolding announced
   announced-other a b hb hr e =
       let d = eqb-false (b .0) (r .0) e in

@@ -6,7 +6,7 @@ use Prim.Native.Nat.{_<_}
 use borrow.Author.Tests.{ltb-true, not-true}
 use lib.Dec.{T}
 use Rattle.base.specs.Laws.Tests.{both, both-left, both-right, not-both}
-use Rattle.transit.specs.Message.{sameRank, relabelled, isRank}
+use Rattle.transit.specs.Message.{sameRank, relabelled, isRank, ranks}
 use Rattle.transit.specs.declared.Message.{Message}
 use Rattle.transit.specs.declared.Place.{Place}
 use Rattle.transit.specs.declared.Rank.{Rank}
@@ -76,18 +76,18 @@ roleBetween-turned p q a b e = at (sameRank a p) (sameRank b q) (sameRank a q) (
 
 -- the effect of a step, from one state to the next: each side anew by the pair's role, and the step's demand met
 pub record Effect (s s' : State) (c : Change) (role : Rank → Rank → Role) : Type 0 where
-  pub sides : (a b : Rank) → a .0 < 16 → b .0 < 16 → sameRank a b ≡ false → side s' a b ≡ c .anew (role a b) (side s a b) (side s b a)
+  pub sides : (a b : Rank) → a .0 < ranks → b .0 < ranks → sameRank a b ≡ false → side s' a b ≡ c .anew (role a b) (side s a b) (side s b a)
   pub turned : (a b : Rank) → sameRank a b ≡ false → role b a ≡ turn (role a b)
-  pub asked : (a b : Rank) → a .0 < 16 → b .0 < 16 → sameRank a b ≡ false → c .asked (role a b) (side s a b) (side s b a) ≡ true
+  pub asked : (a b : Rank) → a .0 < ranks → b .0 < ranks → sameRank a b ≡ false → c .asked (role a b) (side s a b) (side s b a) ≡ true
 
 module _ (s s' : State) (c : Change) (role : Rank → Rank → Role) (kept : T (keeps c)) (f : Pairs s) (e : Effect s s' c role) where
-  demand : (a b : Rank) → a .0 < 16 → b .0 < 16 → sameRank a b ≡ false → given c (role a b) (side s a b) (side s b a) ≡ true
+  demand : (a b : Rank) → a .0 < ranks → b .0 < ranks → sameRank a b ≡ false → given c (role a b) (side s a b) (side s b a) ≡ true
   demand a b ha hb d =
       both
       (both (both (pair-fits s f a b ha hb) (pair-fits s f b a hb ha)) (e .asked a b ha hb d))
       (rw (sym (e .turned a b d)) (e .asked b a hb ha (sameRank-turned a b d)))
 
-  other : (a b : Rank) → a .0 < 16 → b .0 < 16 → sameRank a b ≡ false → side s' b a ≡ c .anew (turn (role a b)) (side s b a) (side s a b)
+  other : (a b : Rank) → a .0 < ranks → b .0 < ranks → sameRank a b ≡ false → side s' b a ≡ c .anew (turn (role a b)) (side s b a) (side s a b)
   other a b ha hb d = rw (sym (e .turned a b d)) (e .sides b a hb ha (sameRank-turned a b d))
 
   -- the pairs stay sound
@@ -100,8 +100,8 @@ module _ (s s' : State) (c : Change) (role : Rank → Rank → Role) (kept : T (
   pub message-stays : (m : Message) → isNamed m ≡ true → fits s m ≡ true → c .askedOf (role (m .receiver) (m .sender)) (m .place) ≡ true → fits s' (relabelled (c .place (role (m .receiver) (m .sender)) (m .place)) m) ≡ true
   message-stays m n h k =
       let named = both-left (isRank (m .sender) && isRank (m .receiver)) (not (sameRank (m .sender) (m .receiver))) n in
-      let from = ltb-true (m .sender .0) 16 (both-left (isRank (m .sender)) (isRank (m .receiver)) named) in
-      let to = ltb-true (m .receiver .0) 16 (both-right (isRank (m .sender)) (isRank (m .receiver)) named) in
+      let from = ltb-true (m .sender .0) ranks (both-left (isRank (m .sender)) (isRank (m .receiver)) named) in
+      let to = ltb-true (m .receiver .0) ranks (both-right (isRank (m .sender)) (isRank (m .receiver)) named) in
       let d = sameRank-turned (m .sender) (m .receiver) (not-true (sameRank (m .sender) (m .receiver)) (both-right (isRank (m .sender) && isRank (m .receiver)) (not (sameRank (m .sender) (m .receiver))) n)) in
       rw (e .sides (m .receiver) (m .sender) to from d, other (m .receiver) (m .sender) to from d)
       (message-kept c kept (role (m .receiver) (m .sender)) (side s (m .receiver) (m .sender)) (side s (m .sender) (m .receiver)) (demand (m .receiver) (m .sender) to from d) (m .place) h k)

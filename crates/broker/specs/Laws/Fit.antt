@@ -9,7 +9,7 @@ use borrow.Author.Tests.{ltb-true, not-true}
 use Rattle.base.specs.Laws.Lists.{every-both, every-wider}
 use Rattle.base.specs.Laws.Tests.{both, both-left, both-right, AllTrue, parts, chained, true-of}
 use Rattle.base.specs.Lists.{every}
-use Rattle.transit.specs.Message.{sameRank, samePlace, at, isRank}
+use Rattle.transit.specs.Message.{sameRank, samePlace, at, isRank, ranks}
 use Rattle.transit.specs.declared.Message.{Message}
 use Rattle.transit.specs.declared.Place.{Place}
 use Rattle.transit.specs.declared.Place.the-variants.{SourceList, SourceChannel, Channel}
@@ -156,7 +156,7 @@ started-as (Migrating v w) = refl
 started-as (Ended v) = refl
 
 -- every pair of a sound state fits
-pub pair-fits : (s : State) → Pairs s → (a b : Rank) → a .0 < 16 → b .0 < 16 → pairFits (side s a b) (side s b a) ≡ true
+pub pair-fits : (s : State) → Pairs s → (a b : Rank) → a .0 < ranks → b .0 < ranks → pairFits (side s a b) (side s b a) ≡ true
 unfolding pairFits
 pair-fits s f a b ha hb =
     rw (lives-as (status s a), runs-as (status s a), migrates-as (status s a), started-as (status s b))
@@ -175,7 +175,7 @@ self-fits x h =
 
 -- every pair of two ranks fits
 abbrev pub PairsFit : State → Type 0
-PairsFit s = (a b : Rank) → a .0 < 16 → b .0 < 16 → sameRank a b ≡ false → pairFits (side s a b) (side s b a) ≡ true
+PairsFit s = (a b : Rank) → a .0 < ranks → b .0 < ranks → sameRank a b ≡ false → pairFits (side s a b) (side s b a) ≡ true
 
 abbrev pub nothingWith : State → Rank → Bool
 nothingWith s r = isClosed (connection s r r) && isClear (backlog s r r) && not (asksFor r (request s r))
@@ -195,14 +195,14 @@ laterClauses s a b =
 
 -- where every pair of two ranks fits and nobody has anything with itself, the pairs are sound
 module _ (s : State) (self : AtRanks (nothingWith s)) (fit : PairsFit s) where
-  fits-all : (a b : Rank) → a .0 < 16 → b .0 < 16 → pairFits (side s a b) (side s b a) ≡ true
+  fits-all : (a b : Rank) → a .0 < ranks → b .0 < ranks → pairFits (side s a b) (side s b a) ≡ true
   fits-all a b ha hb = at (sameRank a b) refl
     where
       at : (t : Bool) → sameRank a b ≡ t → pairFits (side s a b) (side s b a) ≡ true
       at true e = rw (sym (sameRank-eq a b e)) (self-fits (side s a a) (self a ha))
       at false e = fit a b ha hb e
 
-  clauses : (a b : Rank) → a .0 < 16 → b .0 < 16 → (lineBelongs s a b ≡ true) × AllTrue (laterClauses s a b)
+  clauses : (a b : Rank) → a .0 < ranks → b .0 < ranks → (lineBelongs s a b ≡ true) × AllTrue (laterClauses s a b)
   unfolding pairFits
   clauses a b ha hb =
       parts (lineBelongs s a b) (laterClauses s a b)

@@ -10,7 +10,7 @@ use borrow.Author.Tests.{lt-ltb, le-ltb, ltb-true, ltb-false, eqb-true, eqb-fals
 use lib.Dec.{ltb, eqb}
 use lib.ListN.{length, length-set}
 use Rattle.base.specs.Laws.Tests.{both-left, both-right, not-both}
-use Rattle.transit.specs.Message.{sameRank, rank}
+use Rattle.transit.specs.Message.{sameRank, rank, ranks, cells}
 use Rattle.transit.specs.declared.Rank.{Rank}
 use Rattle.broker.specs.Laws.Changes.{byRole}
 use Rattle.broker.specs.Laws.Effect.{roleOf, sameRank-turned, not-twice}
@@ -43,11 +43,11 @@ link-path : {x y : Link} → x .connection ≡ y .connection → x .backlog ≡ 
 link-path p q = λ i. record { connection = p i; backlog = q i }
 
 -- over one line: the two links between the ranks, and no other
-module _ (r p : Rank) (hr : r .0 < 16) (hp : p .0 < 16) (d : sameRank r p ≡ false) where
-  pub leave-long : (ls : List Link) → length ls ≡ 256 → length (leave r p ls) ≡ 256
+module _ (r p : Rank) (hr : r .0 < ranks) (hp : p .0 < ranks) (d : sameRank r p ≡ false) where
+  pub leave-long : (ls : List Link) → length ls ≡ cells → length (leave r p ls) ≡ cells
   leave-long ls n = at (linkAt ls r p .connection)
     where
-      at : (c : Connection) → length (leaveOver c r p ls) ≡ 256
+      at : (c : Connection) → length (leaveOver c r p ls) ≡ cells
       at Closed = n
       at Open = simp length-set n
       at Closing = simp length-set n
@@ -63,7 +63,7 @@ module _ (r p : Rank) (hr : r .0 < 16) (hp : p .0 < 16) (d : sameRank r p ≡ fa
       at true g = absurd (not-both (sameRank-joins a r p (both-left (sameRank a r) (sameRank b p) e) g) d)
       at false g = refl
 
-  leave-over : (c : Connection) (ls : List Link) → length ls ≡ 256 → (a b : Rank) → a .0 < 16 → b .0 < 16 → linkAt (leaveOver c r p ls) a b ≡ leftOver c ls a b
+  leave-over : (c : Connection) (ls : List Link) → length ls ≡ cells → (a b : Rank) → a .0 < ranks → b .0 < ranks → linkAt (leaveOver c r p ls) a b ≡ leftOver c ls a b
   leave-over Closed ls n a b ha hb = at (sameRank a r && sameRank b p) (sameRank a p && sameRank b r)
     where
       at : (x y : Bool) → linkAt ls a b ≡ cond x (linkAt ls a b) (cond y (linkAt ls a b) (linkAt ls a b))
@@ -82,7 +82,7 @@ module _ (r p : Rank) (hr : r .0 < 16) (hp : p .0 < 16) (d : sameRank r p ≡ fa
       M : List Link
       M = setLink ls r p L
 
-      m : length M ≡ 256
+      m : length M ≡ cells
       m = simp length-set n
 
       at : (x y : Bool) → (sameRank a r && sameRank b p) ≡ x → (sameRank a p && sameRank b r) ≡ y → linkAt (leaveOver Open r p ls) a b .connection ≡ cond y Closing (linkAt M a b .connection) → linkAt (leaveOver Open r p ls) a b .backlog ≡ linkAt M a b .backlog → linkAt M a b ≡ cond x L (linkAt ls a b) → linkAt (leaveOver Open r p ls) a b ≡ cond x L (cond y (record { connection = Closing; backlog = linkAt ls a b .backlog }) (linkAt ls a b))
@@ -102,7 +102,7 @@ module _ (r p : Rank) (hr : r .0 < 16) (hp : p .0 < 16) (d : sameRank r p ≡ fa
       M : List Link
       M = setLink ls r p L
 
-      m : length M ≡ 256
+      m : length M ≡ cells
       m = simp length-set n
 
       at : (x y : Bool) → (sameRank a r && sameRank b p) ≡ x → (sameRank a p && sameRank b r) ≡ y → linkAt (leaveOver Closing r p ls) a b .connection ≡ linkAt M a b .connection → linkAt (leaveOver Closing r p ls) a b .backlog ≡ cond y Marked (linkAt M a b .backlog) → linkAt M a b ≡ cond x L (linkAt ls a b) → linkAt (leaveOver Closing r p ls) a b ≡ cond x L (cond y (record { connection = linkAt ls a b .connection; backlog = Marked }) (linkAt ls a b))
@@ -111,7 +111,7 @@ module _ (r p : Rank) (hr : r .0 < 16) (hp : p .0 < 16) (d : sameRank r p ≡ fa
       at false true f g h k e = link-path (h ∙ ap (λ (l : Link). l .connection) e) k
       at false false f g h k e = link-path (h ∙ ap (λ (l : Link). l .connection) e) (k ∙ ap (λ (l : Link). l .backlog) e)
 
-  pub leave-at : (ls : List Link) → length ls ≡ 256 → (a b : Rank) → a .0 < 16 → b .0 < 16 → linkAt (leave r p ls) a b ≡ leftOver (linkAt ls r p .connection) ls a b
+  pub leave-at : (ls : List Link) → length ls ≡ cells → (a b : Rank) → a .0 < ranks → b .0 < ranks → linkAt (leave r p ls) a b ≡ leftOver (linkAt ls r p .connection) ls a b
   leave-at ls n a b ha hb = leave-over (linkAt ls r p .connection) ls n a b ha hb
 
 ltb-skip : (b k : ℕ) → (b ≡ k → ⊥) → ltb b (suc k) ≡ ltb b k
@@ -122,7 +122,7 @@ ltb-skip b k d = at (ltb b k) refl
     at false e = le-ltb b (suc k) (let h = ltb-false b k e in omega arith)
 
 -- over the lines to each rank in turn
-module _ (r : Rank) (hr : r .0 < 16) (ls : List Link) (n : length ls ≡ 256) (own : isClosed (linkAt ls r r .connection) ≡ true) where
+module _ (r : Rank) (hr : r .0 < ranks) (ls : List Link) (n : length ls ≡ cells) (own : isClosed (linkAt ls r r .connection) ≡ true) where
   so-far : ℕ → List Link
   so-far k = eachBelow k (λ i. leave r (rank i)) ls
 
@@ -134,9 +134,9 @@ module _ (r : Rank) (hr : r .0 < 16) (ls : List Link) (n : length ls ≡ 256) (o
   facedAt k a b = cond (ltb (a .0) k) (facedBy (linkAt ls b a .connection) (linkAt ls a b)) (linkAt ls a b)
 
   record SoFar (k : ℕ) : Type 0 where
-    long : length (so-far k) ≡ 256
-    self : (a : Rank) → a .0 < 16 → linkAt (so-far k) a a ≡ linkAt ls a a
-    others : (a b : Rank) → a .0 < 16 → b .0 < 16 → sameRank a b ≡ false → linkAt (so-far k) a b ≡ byRole (leftAt k a b) (facedAt k a b) (linkAt ls a b) (roleOf r a b)
+    long : length (so-far k) ≡ cells
+    self : (a : Rank) → a .0 < ranks → linkAt (so-far k) a a ≡ linkAt ls a a
+    others : (a b : Rank) → a .0 < ranks → b .0 < ranks → sameRank a b ≡ false → linkAt (so-far k) a b ≡ byRole (leftAt k a b) (facedAt k a b) (linkAt ls a b) (roleOf r a b)
 
   closed-leaves : (c : Connection) (p : Rank) (M : List Link) → isClosed c ≡ true → leaveOver c r p M ≡ M
   closed-leaves Closed p M h = refl
@@ -168,7 +168,7 @@ module _ (r : Rank) (hr : r .0 < 16) (ls : List Link) (n : length ls ≡ 256) (o
       at a b d false false g h = refl
 
   -- another rank's turn changes the two links between it and the mover
-  other-turn : (k : ℕ) → k < 16 → (k ≡ r .0 → ⊥) → SoFar k → SoFar (suc k)
+  other-turn : (k : ℕ) → k < ranks → (k ≡ r .0 → ⊥) → SoFar k → SoFar (suc k)
   unfolding so-far
   other-turn k hk e f =
       record {
@@ -210,7 +210,7 @@ module _ (r : Rank) (hr : r .0 < 16) (ls : List Link) (n : length ls ≡ 256) (o
       at a b g false false true v gi gj gu gv h = h
       at a b g false false false v gi gj gu gv h = h
 
-  all-turns : (k : ℕ) → k ≤ 16 → SoFar k
+  all-turns : (k : ℕ) → k ≤ ranks → SoFar k
   unfolding so-far
   all-turns zero h =
       record {
@@ -229,16 +229,16 @@ module _ (r : Rank) (hr : r .0 < 16) (ls : List Link) (n : length ls ≡ 256) (o
       at (yes e) f = own-turn k e f
       at (no e) f = other-turn k h e f
 
-  pub leaveAll-long : length (leaveAll r ls) ≡ 256
+  pub leaveAll-long : length (leaveAll r ls) ≡ cells
   unfolding leaveAll eachRank so-far
-  leaveAll-long = all-turns 16 (omega arith) .long
+  leaveAll-long = all-turns ranks (omega arith) .long
 
   -- every rank keeps its link to itself
-  pub leaveAll-self : (a : Rank) → a .0 < 16 → linkAt (leaveAll r ls) a a ≡ linkAt ls a a
+  pub leaveAll-self : (a : Rank) → a .0 < ranks → linkAt (leaveAll r ls) a a ≡ linkAt ls a a
   unfolding leaveAll eachRank so-far
-  leaveAll-self a ha = all-turns 16 (omega arith) .self a ha
+  leaveAll-self a ha = all-turns ranks (omega arith) .self a ha
 
   -- every other pair's link, by its role in the move
-  pub leaveAll-at : (a b : Rank) → a .0 < 16 → b .0 < 16 → sameRank a b ≡ false → linkAt (leaveAll r ls) a b ≡ byRole (leftBy (linkAt ls a b .connection) (linkAt ls a b)) (facedBy (linkAt ls b a .connection) (linkAt ls a b)) (linkAt ls a b) (roleOf r a b)
+  pub leaveAll-at : (a b : Rank) → a .0 < ranks → b .0 < ranks → sameRank a b ≡ false → linkAt (leaveAll r ls) a b ≡ byRole (leftBy (linkAt ls a b .connection) (linkAt ls a b)) (facedBy (linkAt ls b a .connection) (linkAt ls a b)) (linkAt ls a b) (roleOf r a b)
   unfolding leaveAll eachRank so-far
-  leaveAll-at a b ha hb d = all-turns 16 (omega arith) .others a b ha hb d ∙ rw (lt-ltb (a .0) 16 ha, lt-ltb (b .0) 16 hb)
+  leaveAll-at a b ha hb d = all-turns ranks (omega arith) .others a b ha hb d ∙ rw (lt-ltb (a .0) ranks ha, lt-ltb (b .0) ranks hb)

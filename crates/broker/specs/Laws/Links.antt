@@ -6,7 +6,7 @@ use mathlib.Core.List.{List}
 use Prim.Native.Nat.{ℕ, _<_}
 use lib.ListN.{length, length-set}
 use Rattle.base.specs.Laws.Tests.{both-left, both-right}
-use Rattle.transit.specs.Message.{sameRank}
+use Rattle.transit.specs.Message.{sameRank, ranks, cells}
 use Rattle.transit.specs.declared.Rank.{Rank}
 use Rattle.broker.specs.State.{connect, await, cell, linkAt, setLink}
 use Rattle.broker.specs.Laws.State.{link-set, sameRank-eq}
@@ -14,10 +14,10 @@ use Rattle.broker.specs.declared.link.Backlog.{Backlog}
 use Rattle.broker.specs.declared.link.Connection.{Connection}
 use Rattle.broker.specs.declared.link.Link.{Link}
 
-pub connect-long : (ls : List Link) (p q : Rank) (c : Connection) → length ls ≡ 256 → length (connect p q c ls) ≡ 256
+pub connect-long : (ls : List Link) (p q : Rank) (c : Connection) → length ls ≡ cells → length (connect p q c ls) ≡ cells
 connect-long ls p q c n = simp length-set n
 
-pub await-long : (ls : List Link) (p q : Rank) (g : Backlog) → length ls ≡ 256 → length (await p q g ls) ≡ 256
+pub await-long : (ls : List Link) (p q : Rank) (g : Backlog) → length ls ≡ cells → length (await p q g ls) ≡ cells
 await-long ls p q g n = simp length-set n
 
 -- both ranks are the same
@@ -26,7 +26,7 @@ same-pair a b p q e ls =
     ap (λ (r : Rank). linkAt ls r b) (sameRank-eq a p (both-left (sameRank a p) (sameRank b q) e)) ∙
     ap (linkAt ls p) (sameRank-eq b q (both-right (sameRank a p) (sameRank b q) e))
 
-module _ (ls : List Link) (p q : Rank) (n : length ls ≡ 256) (hp : p .0 < 16) (hq : q .0 < 16) (a b : Rank) (hb : b .0 < 16) where
+module _ (ls : List Link) (p q : Rank) (n : length ls ≡ cells) (hp : p .0 < ranks) (hq : q .0 < ranks) (a b : Rank) (hb : b .0 < ranks) where
   -- a line that is set is set there, and everywhere else stands as it stood
   pub connect-connection : (c : Connection) → linkAt (connect p q c ls) a b .connection ≡ cond (sameRank a p && sameRank b q) c (linkAt ls a b .connection)
   connect-connection c = at (sameRank a p && sameRank b q) (link-set ls p q a b (record { connection = c; backlog = linkAt ls p q .backlog }) n hp hq hb)

@@ -7,7 +7,7 @@ use mathlib.Core.Option.{none}
 use Prim.Native.Nat.{_<_}
 use lib.ListN.{getD}
 use Rattle.base.specs.Laws.Tests.{by-test, not-both}
-use Rattle.transit.specs.Message.{sameRank}
+use Rattle.transit.specs.Message.{sameRank, ranks}
 use Rattle.transit.specs.declared.Rank.{Rank}
 use Rattle.broker.specs.Checks.{is, refusal}
 use Rattle.broker.specs.Connect.{call, route, part}
@@ -48,7 +48,7 @@ unstarted-not-migrating (Migrating v w) h = absurd (not-both refl h)
 unstarted-not-migrating (Ended v) h = refl
 
 -- The rank of an accepted record comes to stand so.
-module _ (s y : State) (p : Rank) (t : Status) (h : sound s ≡ true) (hp : p .0 < 16) (same : y .processes ≡ withStatus p t s .processes) where
+module _ (s y : State) (p : Rank) (t : Status) (h : sound s ≡ true) (hp : p .0 < ranks) (same : y .processes ≡ withStatus p t s .processes) where
   migrates-as : (r : Rank) → isMigrating (status y r) ≡ cond (sameRank r p) (isMigrating t) (isMigrating (status s r))
   migrates-as r =
       rw (same, status-with s p r t (facts s h .shape .processes-long) hp)

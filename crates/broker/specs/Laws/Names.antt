@@ -88,7 +88,7 @@ next-apart s h w d = at (sameVmid (nextVmid s h) w) refl
     at false e = refl
 
 -- when one more number is drawn on a host: what was drawn stays so, and the next vmid is drawn then
-module _ (s : State) (h : ℕ) (long : length (s .drawn) ≡ 8) (host : h < 8) where
+module _ (s : State) (h : ℕ) (long : length (s .drawn) ≡ hosts) (host : h < 8) where
   pub drawn-after : (k : ℕ) → drawnOn (draw h s) k ≡ cond (eqb k h) (drawnOn s h + 1) (drawnOn s k)
   drawn-after k = drawn-with s h k (drawnOn s h + 1) long host
 

@@ -8,7 +8,7 @@ use native.Mathlib.Omega.{arith}
 use borrow.Author.Tests.{eq-eqb}
 use lib.ListN.{length}
 use Rattle.base.specs.Laws.Tests.{by-test}
-use Rattle.transit.specs.Message.{sameRank, rank}
+use Rattle.transit.specs.Message.{sameRank, rank, ranks, cells}
 use Rattle.transit.specs.declared.Rank.{Rank}
 use Rattle.broker.specs.State.{connect, nextVmid, State, linkAt, status, request, location, withStatus, withRequest, withLinks}
 use Rattle.broker.specs.Connect.{connectBoth, call, route, part, routeOn}
@@ -34,11 +34,11 @@ use Rattle.broker.specs.declared.process.Vmid.{Vmid}
 
 -- no backlog, and just these ranks migrating, these calls and these lines
 pub record Calm (x : State) (moves : Rank → Bool) (asks : Rank → Request) (line : Rank → Rank → Connection) : Type 0 where
-  pub processes-long : length (x .processes) ≡ 16
-  pub links-long : length (x .links) ≡ 256
-  pub migrating : (r : Rank) → r .0 < 16 → isMigrating (status x r) ≡ moves r
-  pub requests : (r : Rank) → r .0 < 16 → request x r ≡ asks r
-  pub links : (a b : Rank) → a .0 < 16 → b .0 < 16 → linkAt (x .links) a b ≡ record { connection = line a b; backlog = Clear }
+  pub processes-long : length (x .processes) ≡ ranks
+  pub links-long : length (x .links) ≡ cells
+  pub migrating : (r : Rank) → r .0 < ranks → isMigrating (status x r) ≡ moves r
+  pub requests : (r : Rank) → r .0 < ranks → request x r ≡ asks r
+  pub links : (a b : Rank) → a .0 < ranks → b .0 < ranks → linkAt (x .links) a b ≡ record { connection = line a b; backlog = Clear }
 
 abbrev pub nobody : Rank → Bool
 nobody r = false
@@ -81,27 +81,27 @@ module _ {x : State} {m : Rank → Bool} {q : Rank → Request} {l : Rank → Ra
       }
 
   -- One rank comes to stand so, or its call, or its line to another.
-  calm-status : (r : Rank) (t : Status) → r .0 < 16 → Calm (withStatus r t x) (changed r (isMigrating t) m) q l
+  calm-status : (r : Rank) (t : Status) → r .0 < ranks → Calm (withStatus r t x) (changed r (isMigrating t) m) q l
   calm-status r t hr =
       record {
-        processes-long = long-set 16 (x .processes) (r .0) _ (c .processes-long);
+        processes-long = long-set ranks (x .processes) (r .0) _ (c .processes-long);
         links-long = c .links-long;
         migrating = λ p hp. rw (status-with x r p t (c .processes-long) hr) (by-test (sameRank p r) (λ e. rw e) (λ e. rw e (c .migrating p hp)));
         requests = λ p hp. request-with-status x r p t (c .processes-long) hr ∙ c .requests p hp;
         links = c .links;
       }
 
-  calm-request : (r : Rank) (t : Request) → r .0 < 16 → Calm (withRequest r t x) m (changed r t q) l
+  calm-request : (r : Rank) (t : Request) → r .0 < ranks → Calm (withRequest r t x) m (changed r t q) l
   calm-request r t hr =
       record {
-        processes-long = long-set 16 (x .processes) (r .0) _ (c .processes-long);
+        processes-long = long-set ranks (x .processes) (r .0) _ (c .processes-long);
         links-long = c .links-long;
         migrating = λ p hp. ap isMigrating (status-with-request x r p t (c .processes-long) hr) ∙ c .migrating p hp;
         requests = λ p hp. rw (request-with x r p t (c .processes-long) hr) (by-test (sameRank p r) (λ e. rw e) (λ e. rw e (c .requests p hp)));
         links = c .links;
       }
 
-  calm-connect : (r p : Rank) (t : Connection) → r .0 < 16 → p .0 < 16 → Calm (withLinks (connect r p t (x .links)) x) m q (changedAt r p t l)
+  calm-connect : (r p : Rank) (t : Connection) → r .0 < ranks → p .0 < ranks → Calm (withLinks (connect r p t (x .links)) x) m q (changedAt r p t l)
   calm-connect r p t hr hp =
       record {
         processes-long = c .processes-long;
@@ -137,22 +137,22 @@ same-either true v = refl
 same-either false v = refl
 
 -- What changes nothing at each rank changes nothing.
-eachRank-fixed : {A : Type 0} (f : Rank → A → A) (x : A) → ((r : Rank) → r .0 < 16 → f r x ≡ x) → eachRank f x ≡ x
+eachRank-fixed : {A : Type 0} (f : Rank → A → A) (x : A) → ((r : Rank) → r .0 < ranks → f r x ≡ x) → eachRank f x ≡ x
 unfolding eachRank
-eachRank-fixed f x fixed = go 16 (omega arith)
+eachRank-fixed f x fixed = go ranks (omega arith)
   where
-    go : (n : ℕ) → n ≤ 16 → eachBelow n (λ k. f (rank k)) x ≡ x
+    go : (n : ℕ) → n ≤ ranks → eachBelow n (λ k. f (rank k)) x ≡ x
     go zero h = refl
     go (suc n) h = rw (go n (omega arith)) (fixed (rank n) h)
 
 -- Start, end and take leave all quiet.
-pub start-calm : (x : State) (r : Rank) (h : ℕ) → AllQuiet x → r .0 < 16 → AllQuiet (start r h x .state)
+pub start-calm : (x : State) (r : Rank) (h : ℕ) → AllQuiet x → r .0 < ranks → AllQuiet (start r h x .state)
 unfolding start
 start-calm x r h c hr =
     calm-as (calm-kept (calm-status c r (Running (nextVmid x h)) hr) (start r h x .state) refl refl)
     (λ p. same-either (sameRank p r) false) (λ p. refl) (λ p q. refl)
 
-pub end-calm : (x : State) (r : Rank) → AllQuiet x → r .0 < 16 → AllQuiet (end r x .state)
+pub end-calm : (x : State) (r : Rank) → AllQuiet x → r .0 < ranks → AllQuiet (end r x .state)
 unfolding end
 end-calm x r c hr =
     calm-as (calm-status c r (Ended (endpoint (status x r))) hr) (λ p. same-either (sameRank p r) false) (λ p. refl) (λ p q. refl)
@@ -162,20 +162,20 @@ unfolding take
 take-calm x b a c = calm-kept c (take b a x .state) refl refl
 
 -- A move from a quiet state awaits nothing, and its landing leaves all quiet.
-pub move-calm : (x : State) (r : Rank) (h : ℕ) → AllQuiet x → r .0 < 16 → Moving (move r h x .state) r
+pub move-calm : (x : State) (r : Rank) (h : ℕ) → AllQuiet x → r .0 < ranks → Moving (move r h x .state) r
 unfolding move leaveAll
 move-calm x r h c hr =
     calm-kept (calm-status c r (Migrating (endpoint (status x r)) (nextVmid x h)) hr) (move r h x .state) refl
     (eachRank-fixed (leave r) (x .links) (λ p hp. rw (c .links r p hr hp)))
 
-pub land-calm : (x : State) (r : Rank) → Moving x r → r .0 < 16 → AllQuiet (land r x .state)
+pub land-calm : (x : State) (r : Rank) → Moving x r → r .0 < ranks → AllQuiet (land r x .state)
 unfolding land
 land-calm x r c hr =
     calm-as (calm-kept (calm-status c r (Running (endpoint (status x r))) hr) (land r x .state) refl refl)
     (λ p. by-test (sameRank p r) (λ e. rw e) (λ e. rw e)) (λ p. refl) (λ p q. refl)
 
 -- A call from a quiet state is the only one.
-pub call-calm : (x : State) (a b : Rank) → AllQuiet x → a .0 < 16 → Calling (call a b x .state) a b (location x a b)
+pub call-calm : (x : State) (a b : Rank) → AllQuiet x → a .0 < ranks → Calling (call a b x .state) a b (location x a b)
 unfolding call
 call-calm x a b c ha = calm-request c a (Posted b (location x a b)) ha
 
@@ -184,7 +184,7 @@ pub sameVmid-self : (v : Vmid) → sameVmid v v ≡ true
 sameVmid-self v = rw (eq-eqb (v .0) (v .0) refl, eq-eqb (v .1) (v .1) refl)
 
 -- A route of the only call corrects the posted vmid, or joins the two.
-module _ (x : State) (a b : Rank) (v : Vmid) (c : Calling x a b v) (ha : a .0 < 16) (hb : b .0 < 16) (runs : isEnded (status x b) ≡ false) where
+module _ (x : State) (a b : Rank) (v : Vmid) (c : Calling x a b v) (ha : a .0 < ranks) (hb : b .0 < ranks) (runs : isEnded (status x b) ≡ false) where
   posted : request x a ≡ Posted b v
   posted = c .requests a ha ∙ rw (sameRank-self a)
 
@@ -211,7 +211,7 @@ pub send-calm : (x : State) (a b : Rank) (v : ℕ) {l : Rank → Rank → Connec
 unfolding send
 send-calm x a b v c = calm-kept c (send a b v x .state) refl refl
 
-pub part-calm : (x : State) (a b : Rank) → Joined x a b → a .0 < 16 → b .0 < 16 → AllQuiet (part a b x .state)
+pub part-calm : (x : State) (a b : Rank) → Joined x a b → a .0 < ranks → b .0 < ranks → AllQuiet (part a b x .state)
 unfolding part
 part-calm x a b c ha hb =
     calm-as (calm-kept (calm-connect (calm-connect c a b Closed ha hb) b a Closed hb ha) (part a b x .state) refl refl)

@@ -7,38 +7,38 @@ use lib.Dec.{eqb}
 use Rattle.base.specs.Below.{allBelow}
 use Rattle.base.specs.Laws.Below.{allBelow-at, allBelow-of, allBelow-fails, all-pass, eachBelow-keeps}
 use Rattle.transit.specs.declared.Rank.{Rank}
-use Rattle.transit.specs.Message.{rank}
+use Rattle.transit.specs.Message.{rank, ranks}
 use Rattle.broker.specs.Ranks.{everyRank, everyPair, countRanks, eachRank}
 
-pub everyRank-at : (f : Rank → Bool) → everyRank f ≡ true → (r : Rank) → r .0 < 16 → f r ≡ true
+pub everyRank-at : (f : Rank → Bool) → everyRank f ≡ true → (r : Rank) → r .0 < ranks → f r ≡ true
 unfolding everyRank
-everyRank-at f h r b = allBelow-at 16 (λ n. f (rank n)) h (r .0) b
+everyRank-at f h r b = allBelow-at ranks (λ n. f (rank n)) h (r .0) b
 
-pub everyRank-of : (f : Rank → Bool) → ((r : Rank) → r .0 < 16 → f r ≡ true) → everyRank f ≡ true
+pub everyRank-of : (f : Rank → Bool) → ((r : Rank) → r .0 < ranks → f r ≡ true) → everyRank f ≡ true
 unfolding everyRank
-everyRank-of f h = allBelow-of 16 (λ n. f (rank n)) (λ k b. h (rank k) b)
+everyRank-of f h = allBelow-of ranks (λ n. f (rank n)) (λ k b. h (rank k) b)
 
 -- where one fails, not all pass
-pub everyRank-fails : (f : Rank → Bool) (r : Rank) → r .0 < 16 → f r ≡ false → everyRank f ≡ false
+pub everyRank-fails : (f : Rank → Bool) (r : Rank) → r .0 < ranks → f r ≡ false → everyRank f ≡ false
 unfolding everyRank
-everyRank-fails f r b fails = allBelow-fails 16 (λ n. f (rank n)) (r .0) b fails
+everyRank-fails f r b fails = allBelow-fails ranks (λ n. f (rank n)) (r .0) b fails
 
 -- all pass exactly where the count of those that do not is 0
 pub everyRank-counts : (f : Rank → Bool) → everyRank f ≡ eqb (countRanks (λ p. not (f p))) 0
 unfolding everyRank countRanks
-everyRank-counts f = all-pass (λ n. f (rank n)) 16
+everyRank-counts f = all-pass (λ n. f (rank n)) ranks
 
-pub everyPair-at : (f : Rank → Rank → Bool) → everyPair f ≡ true → (a b : Rank) → a .0 < 16 → b .0 < 16 → f a b ≡ true
+pub everyPair-at : (f : Rank → Rank → Bool) → everyPair f ≡ true → (a b : Rank) → a .0 < ranks → b .0 < ranks → f a b ≡ true
 unfolding everyPair
 everyPair-at f h a b ha hb =
-    allBelow-at 16 (λ n. f a (rank n)) (allBelow-at 16 (λ m. allBelow 16 (λ n. f (rank m) (rank n))) h (a .0) ha) (b .0) hb
+    allBelow-at ranks (λ n. f a (rank n)) (allBelow-at ranks (λ m. allBelow ranks (λ n. f (rank m) (rank n))) h (a .0) ha) (b .0) hb
 
-pub everyPair-of : (f : Rank → Rank → Bool) → ((a b : Rank) → a .0 < 16 → b .0 < 16 → f a b ≡ true) → everyPair f ≡ true
+pub everyPair-of : (f : Rank → Rank → Bool) → ((a b : Rank) → a .0 < ranks → b .0 < ranks → f a b ≡ true) → everyPair f ≡ true
 unfolding everyPair
 everyPair-of f h =
-    allBelow-of 16 (λ m. allBelow 16 (λ n. f (rank m) (rank n)))
-    (λ m bm. allBelow-of 16 (λ n. f (rank m) (rank n)) (λ n bn. h (rank m) (rank n) bm bn))
+    allBelow-of ranks (λ m. allBelow ranks (λ n. f (rank m) (rank n)))
+    (λ m bm. allBelow-of ranks (λ n. f (rank m) (rank n)) (λ n bn. h (rank m) (rank n) bm bn))
 
 pub eachRank-keeps : {A : Type 0} (P : A → Type 0) (f : Rank → A → A) (x : A) → P x → ((r : Rank) (y : A) → P y → P (f r y)) → P (eachRank f x)
 unfolding eachRank
-eachRank-keeps P f x h keep = eachBelow-keeps P 16 (λ n. f (rank n)) x h (λ k y p. keep (rank k) y p)
+eachRank-keeps P f x h keep = eachBelow-keeps P ranks (λ n. f (rank n)) x h (λ k y p. keep (rank k) y p)

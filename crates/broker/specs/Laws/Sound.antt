@@ -9,30 +9,47 @@ use lib.Dec.{eqb, leb}
 use lib.ListN.{length}
 use Rattle.base.specs.Laws.Tests.{both, parts, chained}
 use Rattle.base.specs.Lists.{select, every, neverFalls}
-use Rattle.transit.specs.Message.{between, at, placeNumber, sameRank, isRank}
+use Rattle.transit.specs.Message.{between, at, placeNumber, sameRank, isRank, ranks, cells}
 use Rattle.transit.specs.Unread.{limit}
 use Rattle.transit.specs.declared.Message.{Message}
 use Rattle.transit.specs.declared.Place.the-variants.{SourceList, SourceChannel, Channel}
 use Rattle.transit.specs.declared.Rank.{Rank}
 use Rattle.base.specs.Laws.Below.{allBelow-at, allBelow-of}
 use Rattle.broker.specs.Laws.Ranks.{everyRank-at, everyRank-of, everyPair-at, everyPair-of}
-use Rattle.broker.specs.Names.{hosts, numbers, unknown, sameVmid, isStarted, isRunning, isMigrating, isLive, processesOf, vmidsOf, asksFor, isClosed, isOpen, isClosing, isClear, isUnheeded}
+use Rattle.broker.specs.Names.{
+  hosts,
+  numbers,
+  unknown,
+  sameVmid,
+  isStarted,
+  isRunning,
+  isMigrating,
+  isLive,
+  processesOf,
+  vmidsOf,
+  asksFor,
+  isClosed,
+  isOpen,
+  isClosing,
+  isClear,
+  isUnheeded,
+}
 use Rattle.broker.specs.Sound
 use Rattle.broker.specs.Sound.{sound, isDrawn, ofCall, noneShared, distinct}
 use Rattle.broker.specs.State.{State, status, request, location, connection, backlog, drawnOn, messages}
 
 -- a test that passes at each rank, and at each rank and each rank
 abbrev pub AtRanks : (Rank → Bool) → Type 0
-AtRanks f = (r : Rank) → r .0 < 16 → f r ≡ true
+AtRanks f = (r : Rank) → r .0 < ranks → f r ≡ true
 
 abbrev pub AtPairs : (Rank → Rank → Bool) → Type 0
-AtPairs f = (a b : Rank) → a .0 < 16 → b .0 < 16 → f a b ≡ true
+AtPairs f = (a b : Rank) → a .0 < ranks → b .0 < ranks → f a b ≡ true
 
 pub record Shape (s : State) : Type 0 where
-  pub processes-long : length (s .processes) ≡ 16
-  pub locations-long : length (s .locations) ≡ 256
-  pub links-long : length (s .links) ≡ 256
-  pub drawn-long : length (s .drawn) ≡ 8
+  pub processes-long : length (s .processes) ≡ ranks
+  pub locations-long : length (s .locations) ≡ cells
+  pub links-long : length (s .links) ≡ cells
+  pub drawn-long : length (s .drawn) ≡ hosts
 
 pub record Names (s : State) : Type 0 where
   pub numbers-in-range : (h : ℕ) → h < 8 → drawnOn s h ≤ numbers
@@ -83,7 +100,7 @@ pub record Facts (s : State) : Type 0 where
 
 -- the clauses of each group, after its first
 abbrev longs : State → List Bool
-longs s = eqb (length (s .locations)) 256 ∷ eqb (length (s .links)) 256 ∷ eqb (length (s .drawn)) 8 ∷ []
+longs s = eqb (length (s .locations)) cells ∷ eqb (length (s .links)) cells ∷ eqb (length (s .drawn)) hosts ∷ []
 
 abbrev nameClauses : State → List Bool
 nameClauses s = Sound.vmidsDrawn s ∷ Sound.callsDrawn s ∷ Sound.tablesDrawn s ∷ Sound.vmidsApart s ∷ []
@@ -104,20 +121,20 @@ mailClauses s =
 shape-of : (s : State) → Sound.shaped s ≡ true → Shape s
 unfolding Sound.shaped
 shape-of s h =
-    let p = parts (eqb (length (s .processes)) 16) (longs s) h in
+    let p = parts (eqb (length (s .processes)) ranks) (longs s) h in
     record {
-      processes-long = eqb-true (length (s .processes)) 16 (p .0);
-      locations-long = eqb-true (length (s .locations)) 256 (p .1 .0);
-      links-long = eqb-true (length (s .links)) 256 (p .1 .1 .0);
-      drawn-long = eqb-true (length (s .drawn)) 8 (p .1 .1 .1 .0);
+      processes-long = eqb-true (length (s .processes)) ranks (p .0);
+      locations-long = eqb-true (length (s .locations)) cells (p .1 .0);
+      links-long = eqb-true (length (s .links)) cells (p .1 .1 .0);
+      drawn-long = eqb-true (length (s .drawn)) hosts (p .1 .1 .1 .0);
     }
 
 of-shape : (s : State) → Shape s → Sound.shaped s ≡ true
 unfolding Sound.shaped
 of-shape s f =
-    chained (eqb (length (s .processes)) 16) (longs s) (eq-eqb (length (s .processes)) 16 (f .processes-long)) (
-      eq-eqb (length (s .locations)) 256 (f .locations-long),
-      (eq-eqb (length (s .links)) 256 (f .links-long), (eq-eqb (length (s .drawn)) 8 (f .drawn-long), tt)),
+    chained (eqb (length (s .processes)) ranks) (longs s) (eq-eqb (length (s .processes)) ranks (f .processes-long)) (
+      eq-eqb (length (s .locations)) cells (f .locations-long),
+      (eq-eqb (length (s .links)) cells (f .links-long), (eq-eqb (length (s .drawn)) hosts (f .drawn-long), tt)),
     )
 
 names-of : (s : State) → Sound.namesSound s ≡ true → Names s

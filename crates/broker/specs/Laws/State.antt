@@ -9,7 +9,8 @@ use lib.Dec.{eqb}
 use lib.ListN.{length, getD, set}
 use lib.Seq.{getD-set-same, getD-set-other}
 use borrow.Author.Tests.{eq-eqb, ne-eqb, eqb-true}
-use Rattle.transit.specs.Message.{sameRank}
+use Rattle.broker.specs.Names.{hosts}
+use Rattle.transit.specs.Message.{sameRank, ranks, cells}
 use Rattle.transit.specs.declared.Rank.{Rank}
 use Rattle.broker.specs.State.{State, idle, apart, cell, linkAt, setLink, process, status, request, location, drawnOn, withProcess, withStatus, withRequest, withDrawn}
 use Rattle.broker.specs.declared.link.Link.{Link}
@@ -40,7 +41,7 @@ sameRank-joins a p q g h =
     eq-eqb (p .0) (q .0) (omega arith)
 
 -- each rank and rank has a cell of its own
-pub cell-same : (a b p q : Rank) → b .0 < 16 → q .0 < 16 → eqb (cell a b) (cell p q) ≡ (sameRank a p && sameRank b q)
+pub cell-same : (a b p q : Rank) → b .0 < ranks → q .0 < ranks → eqb (cell a b) (cell p q) ≡ (sameRank a p && sameRank b q)
 cell-same a b p q hb hq = at (ℕ-discrete (a .0) (p .0)) (ℕ-discrete (b .0) (q .0))
   where
     at : Dec (a .0 ≡ p .0) → Dec (b .0 ≡ q .0) → eqb (cell a b) (cell p q) ≡ (sameRank a p && sameRank b q)
@@ -48,44 +49,44 @@ cell-same a b p q hb hq = at (ℕ-discrete (a .0) (p .0)) (ℕ-discrete (b .0) (
     at (yes e) (no f) = rw (ne-eqb (cell a b) (cell p q) (λ c. f (omega arith)), eq-eqb (a .0) (p .0) e, ne-eqb (b .0) (q .0) f)
     at (no e) f = rw (ne-eqb (cell a b) (cell p q) (λ c. e (omega arith)), ne-eqb (a .0) (p .0) e)
 
-pub cell-below : (a b : Rank) → a .0 < 16 → b .0 < 16 → cell a b < 256
+pub cell-below : (a b : Rank) → a .0 < ranks → b .0 < ranks → cell a b < cells
 cell-below a b ha hb = omega arith
 
 -- a table of a cell for each rank and rank, after a store
-pub cell-set : {A : Type 0} (l : List A) (p q a b : Rank) (x d : A) → length l ≡ 256 → p .0 < 16 → q .0 < 16 → b .0 < 16 → getD (set l (cell p q) x) (cell a b) d ≡ cond (sameRank a p && sameRank b q) x (getD l (cell a b) d)
+pub cell-set : {A : Type 0} (l : List A) (p q a b : Rank) (x d : A) → length l ≡ cells → p .0 < ranks → q .0 < ranks → b .0 < ranks → getD (set l (cell p q) x) (cell a b) d ≡ cond (sameRank a p && sameRank b q) x (getD l (cell a b) d)
 cell-set l p q a b x d n hp hq hb =
     getD-set l (cell p q) (cell a b) x d (rw n (cell-below p q hp hq)) ∙
     ap (λ (t : Bool). cond t x (getD l (cell a b) d)) (cell-same a b p q hb hq)
 
-pub link-set : (ls : List Link) (p q a b : Rank) (l : Link) → length ls ≡ 256 → p .0 < 16 → q .0 < 16 → b .0 < 16 → linkAt (setLink ls p q l) a b ≡ cond (sameRank a p && sameRank b q) l (linkAt ls a b)
+pub link-set : (ls : List Link) (p q a b : Rank) (l : Link) → length ls ≡ cells → p .0 < ranks → q .0 < ranks → b .0 < ranks → linkAt (setLink ls p q l) a b ≡ cond (sameRank a p && sameRank b q) l (linkAt ls a b)
 link-set ls p q a b l n hp hq hb = cell-set ls p q a b l apart n hp hq hb
 
 -- a rank's process, its standing and its call, after a change of one rank's
-pub process-with : (s : State) (r a : Rank) (p : Process) → length (s .processes) ≡ 16 → r .0 < 16 → process (withProcess r p s) a ≡ cond (sameRank a r) p (process s a)
+pub process-with : (s : State) (r a : Rank) (p : Process) → length (s .processes) ≡ ranks → r .0 < ranks → process (withProcess r p s) a ≡ cond (sameRank a r) p (process s a)
 process-with s r a p n h = getD-set (s .processes) (r .0) (a .0) p idle (rw n h)
 
-pub status-with : (s : State) (r a : Rank) (t : Status) → length (s .processes) ≡ 16 → r .0 < 16 → status (withStatus r t s) a ≡ cond (sameRank a r) t (status s a)
+pub status-with : (s : State) (r a : Rank) (t : Status) → length (s .processes) ≡ ranks → r .0 < ranks → status (withStatus r t s) a ≡ cond (sameRank a r) t (status s a)
 status-with s r a t n h = split (sameRank a r) (process-with s r a (record { status = t; request = request s r }) n h)
   where
     split : (b : Bool) → process (withStatus r t s) a ≡ cond b (record { status = t; request = request s r }) (process s a) → status (withStatus r t s) a ≡ cond b t (status s a)
     split true e = ap (λ (p : Process). p .status) e
     split false e = ap (λ (p : Process). p .status) e
 
-pub request-with-status : (s : State) (r a : Rank) (t : Status) → length (s .processes) ≡ 16 → r .0 < 16 → request (withStatus r t s) a ≡ request s a
+pub request-with-status : (s : State) (r a : Rank) (t : Status) → length (s .processes) ≡ ranks → r .0 < ranks → request (withStatus r t s) a ≡ request s a
 request-with-status s r a t n h = split (sameRank a r) refl (process-with s r a (record { status = t; request = request s r }) n h)
   where
     split : (b : Bool) → sameRank a r ≡ b → process (withStatus r t s) a ≡ cond b (record { status = t; request = request s r }) (process s a) → request (withStatus r t s) a ≡ request s a
     split true g e = ap (λ (p : Process). p .request) e ∙ ap (request s) (sym (sameRank-eq a r g))
     split false g e = ap (λ (p : Process). p .request) e
 
-pub request-with : (s : State) (r a : Rank) (q : Request) → length (s .processes) ≡ 16 → r .0 < 16 → request (withRequest r q s) a ≡ cond (sameRank a r) q (request s a)
+pub request-with : (s : State) (r a : Rank) (q : Request) → length (s .processes) ≡ ranks → r .0 < ranks → request (withRequest r q s) a ≡ cond (sameRank a r) q (request s a)
 request-with s r a q n h = split (sameRank a r) (process-with s r a (record { status = status s r; request = q }) n h)
   where
     split : (b : Bool) → process (withRequest r q s) a ≡ cond b (record { status = status s r; request = q }) (process s a) → request (withRequest r q s) a ≡ cond b q (request s a)
     split true e = ap (λ (p : Process). p .request) e
     split false e = ap (λ (p : Process). p .request) e
 
-pub status-with-request : (s : State) (r a : Rank) (q : Request) → length (s .processes) ≡ 16 → r .0 < 16 → status (withRequest r q s) a ≡ status s a
+pub status-with-request : (s : State) (r a : Rank) (q : Request) → length (s .processes) ≡ ranks → r .0 < ranks → status (withRequest r q s) a ≡ status s a
 status-with-request s r a q n h = split (sameRank a r) refl (process-with s r a (record { status = status s r; request = q }) n h)
   where
     split : (b : Bool) → sameRank a r ≡ b → process (withRequest r q s) a ≡ cond b (record { status = status s r; request = q }) (process s a) → status (withRequest r q s) a ≡ status s a
@@ -93,5 +94,5 @@ status-with-request s r a q n h = split (sameRank a r) refl (process-with s r a 
     split false g e = ap (λ (p : Process). p .status) e
 
 -- the numbers drawn on a host after one more is drawn
-pub drawn-with : (s : State) (h k n : ℕ) → length (s .drawn) ≡ 8 → h < 8 → drawnOn (withDrawn h n s) k ≡ cond (eqb k h) n (drawnOn s k)
+pub drawn-with : (s : State) (h k n : ℕ) → length (s .drawn) ≡ hosts → h < 8 → drawnOn (withDrawn h n s) k ≡ cond (eqb k h) n (drawnOn s k)
 drawn-with s h k n e b = getD-set (s .drawn) h k n 0 (rw e b)

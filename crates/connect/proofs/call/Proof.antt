@@ -4,18 +4,6 @@ use Rattle.broker.specs.Connect.{call}
 use Rattle.connect.proofs.call.Statement.{statement}
 use Rattle.connect.proofs.call.Tie as tie
 
-location-of-requires : tie.Need-location-of-requires
-location-of-requires c κs = search needs
-
-set-request-requires : tie.Need-set-request-requires
-set-request-requires c κs = search needs
-
-cast-t9 : tie.Need-cast-t9
-cast-t9 c = search needs
-
-cast-t10 : tie.Need-cast-t10
-cast-t10 c = search needs
-
 returns : tie.Need-returns
 unfolding call
 returns c =
@@ -26,4 +14,5 @@ returns c =
     }
 
 pub call-spec : {M : Type 1} → statement M
-call-spec = tie.close (tie.spec location-of-requires set-request-requires cast-t9 cast-t10 returns)
+call-spec =
+    tie.close (tie.spec (search needs) (search needs) (search needs) (search needs) returns)

@@ -3,24 +3,6 @@ use borrow.Author.Needs.{needs}
 use Rattle.connect.proofs.call_checked.Statement.{statement}
 use Rattle.connect.proofs.call_checked.Tie as tie
 
-on-two-requires : tie.Need-on-two-requires
-on-two-requires c κs = search needs
-
-running-requires : tie.Need-running-requires
-running-requires c κs = search needs
-
-is-closed-requires : tie.Need-is-closed-requires
-is-closed-requires c κs = search needs
-
-unless-requires : tie.Need-unless-requires
-unless-requires c κs = search needs
-
-is-open-requires : tie.Need-is-open-requires
-is-open-requires c κs = search needs
-
-unless-requires-2 : tie.Need-unless-requires-2
-unless-requires-2 c κs = search needs
-
 returns : tie.Need-returns
 returns c =
     let line = c .before .before .before in
@@ -35,12 +17,5 @@ returns c =
 
 pub call-checked-spec : {M : Type 1} → statement M
 call-checked-spec =
-    tie.close
-    (tie.spec
-    on-two-requires
-    running-requires
-    is-closed-requires
-    unless-requires
-    is-open-requires
-    unless-requires-2
+    tie.close (tie.spec (search needs) (search needs) (search needs) (search needs) (search needs) (search needs)
     returns)

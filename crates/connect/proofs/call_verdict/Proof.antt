@@ -6,21 +6,6 @@ use Rattle.connect.specs.Laws.Judged.{by-tests}
 use Rattle.connect.proofs.call_verdict.Statement.{statement}
 use Rattle.connect.proofs.call_verdict.Tie as tie
 
-standing-of-requires : tie.Need-standing-of-requires
-standing-of-requires c κs = search needs
-
-standing-of-requires-2 : tie.Need-standing-of-requires-2
-standing-of-requires-2 c κs = search needs
-
-request-of-requires : tie.Need-request-of-requires
-request-of-requires c κs = search needs
-
-link-between-requires : tie.Need-link-between-requires
-link-between-requires c κs = search needs
-
-call-checked-requires : tie.Need-call-checked-requires
-call-checked-requires c κs = search needs
-
 returns : tie.Need-returns
 returns c = λ u.
     let request = c .before .before in
@@ -36,11 +21,4 @@ returns c = λ u.
 
 pub call-verdict-spec : {M : Type 1} → statement M
 call-verdict-spec =
-    tie.close
-    (tie.spec
-    standing-of-requires
-    standing-of-requires-2
-    request-of-requires
-    link-between-requires
-    call-checked-requires
-    returns)
+    tie.close (tie.spec (search needs) (search needs) (search needs) (search needs) (search needs) returns)

@@ -3,15 +3,10 @@ use borrow.Author.Needs.{needs}
 use Rattle.connect.proofs.connect_both.Statement.{statement}
 use Rattle.connect.proofs.connect_both.Tie as tie
 
-connect-requires : tie.Need-connect-requires
-connect-requires c κs = search needs
-
-connect-requires-2 : tie.Need-connect-requires-2
-connect-requires-2 c κs = search needs
-
 returns : tie.Need-returns
 returns c =
     record { long = c .connect2 .ensures .long; same = rw (c .connect2 .ensures .same, c .before .before .connect .ensures .same) }
 
 pub connect-both-spec : {M : Type 1} → statement M
-connect-both-spec = tie.close (tie.spec connect-requires connect-requires-2 returns)
+connect-both-spec =
+    tie.close (tie.spec (search needs) (search needs) returns)

@@ -5,21 +5,6 @@ use Rattle.connect.specs.Laws.Parted.{part-done}
 use Rattle.connect.proofs.part.Statement.{statement}
 use Rattle.connect.proofs.part.Tie as tie
 
-relabel-between-requires : tie.Need-relabel-between-requires
-relabel-between-requires c κs = search needs
-
-relabel-between-requires-2 : tie.Need-relabel-between-requires-2
-relabel-between-requires-2 c κs = search needs
-
-connect-both-requires : tie.Need-connect-both-requires
-connect-both-requires c κs = search needs
-
-cast-t14 : tie.Need-cast-t14
-cast-t14 c = search needs
-
-cast-t15 : tie.Need-cast-t15
-cast-t15 c = search needs
-
 returns : tie.Need-returns
 returns c = λ contents m.
     let second = c .before .before in
@@ -36,11 +21,4 @@ returns c = λ contents m.
 
 pub part-spec : {M : Type 1} → statement M
 part-spec =
-    tie.close
-    (tie.spec
-    relabel-between-requires
-    relabel-between-requires-2
-    connect-both-requires
-    cast-t14
-    cast-t15
-    returns)
+    tie.close (tie.spec (search needs) (search needs) (search needs) (search needs) (search needs) returns)

@@ -23,24 +23,6 @@ found c u =
       ends = c .endpoint .ensures;
     }
 
-request-of-requires : tie.Need-request-of-requires
-request-of-requires c κs = search needs
-
-standing-of-requires : tie.Need-standing-of-requires
-standing-of-requires c κs = search needs
-
-posted-to-requires : tie.Need-posted-to-requires
-posted-to-requires c κs = search needs
-
-endpoint-requires : tie.Need-endpoint-requires
-endpoint-requires c κs = search needs
-
-is-ended-requires : tie.Need-is-ended-requires
-is-ended-requires c κs = search needs
-
-set-request-requires : tie.Need-set-request-requires
-set-request-requires c κs = search needs
-
 returns : tie.Need-returns
 returns c =
     let test = c .before .before in
@@ -51,12 +33,6 @@ returns c =
           rw (c .set-request .ensures .same)
           (route-ended (found (ended .before) u) (sym (ended .is-ended .ensures) ∙ test .if1 .taken));
     }
-
-same-requires : tie.Need-same-requires
-same-requires c κs = search needs
-
-route-there-requires : tie.Need-route-there-requires
-route-there-requires c κs = search needs
 
 returns-2 : tie.Need-returns-2
 returns-2 c =
@@ -70,9 +46,6 @@ returns-2 c =
           route-arrives (found (ended .before) u) (sym (ended .is-ended .ensures) ∙ there .before .if1 .left)
           (sym (there .same .ensures) ∙ test .if2 .taken);
     }
-
-route-on-requires : tie.Need-route-on-requires
-route-on-requires c κs = search needs
 
 returns-3 : tie.Need-returns-3
 returns-3 c =
@@ -89,17 +62,5 @@ returns-3 c =
 
 pub route-spec : {M : Type 1} → statement M
 route-spec =
-    tie.close
-    (tie.spec
-    request-of-requires
-    standing-of-requires
-    posted-to-requires
-    endpoint-requires
-    is-ended-requires
-    set-request-requires
-    returns
-    same-requires
-    route-there-requires
-    returns-2
-    route-on-requires
-    returns-3)
+    tie.close (tie.spec (search needs) (search needs) (search needs) (search needs) (search needs) (search needs)
+    returns (search needs) (search needs) returns-2 (search needs) returns-3)

@@ -5,21 +5,6 @@ use Rattle.connect.specs.Laws.Withdrawn.{routed-there}
 use Rattle.connect.proofs.route_there.Statement.{statement}
 use Rattle.connect.proofs.route_there.Tie as tie
 
-connect-both-requires : tie.Need-connect-both-requires
-connect-both-requires c κs = search needs
-
-withdraw-requires : tie.Need-withdraw-requires
-withdraw-requires c κs = search needs
-
-withdraw-requires-2 : tie.Need-withdraw-requires-2
-withdraw-requires-2 c κs = search needs
-
-cast-t10 : tie.Need-cast-t10
-cast-t10 c = search needs
-
-cast-t11 : tie.Need-cast-t11
-cast-t11 c = search needs
-
 returns : tie.Need-returns
 returns c =
     let crossed = c .before .before in
@@ -35,11 +20,4 @@ returns c =
 
 pub route-there-spec : {M : Type 1} → statement M
 route-there-spec =
-    tie.close
-    (tie.spec
-    connect-both-requires
-    withdraw-requires
-    withdraw-requires-2
-    cast-t10
-    cast-t11
-    returns)
+    tie.close (tie.spec (search needs) (search needs) (search needs) (search needs) (search needs) returns)

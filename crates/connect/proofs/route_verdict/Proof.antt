@@ -6,18 +6,6 @@ use Rattle.connect.specs.Laws.Judged.{by-tests}
 use Rattle.connect.proofs.route_verdict.Statement.{statement}
 use Rattle.connect.proofs.route_verdict.Tie as tie
 
-standing-of-requires : tie.Need-standing-of-requires
-standing-of-requires c κs = search needs
-
-standing-of-requires-2 : tie.Need-standing-of-requires-2
-standing-of-requires-2 c κs = search needs
-
-request-of-requires : tie.Need-request-of-requires
-request-of-requires c κs = search needs
-
-route-checked-requires : tie.Need-route-checked-requires
-route-checked-requires c κs = search needs
-
 returns : tie.Need-returns
 returns c = λ u.
     let standing = c .before .before in
@@ -32,10 +20,4 @@ returns c = λ u.
 
 pub route-verdict-spec : {M : Type 1} → statement M
 route-verdict-spec =
-    tie.close
-    (tie.spec
-    standing-of-requires
-    standing-of-requires-2
-    request-of-requires
-    route-checked-requires
-    returns)
+    tie.close (tie.spec (search needs) (search needs) (search needs) (search needs) returns)

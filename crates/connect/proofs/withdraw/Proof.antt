@@ -15,15 +15,6 @@ asks :
     asksFor (args .b) (request (ranksOf (args .roster .now)) (args .a)) ≡ c .asks-for .result
 asks c = rw (c .asks-for .ensures, c .before .request-of .ensures)
 
-request-of-requires : tie.Need-request-of-requires
-request-of-requires c κs = search needs
-
-asks-for-requires : tie.Need-asks-for-requires
-asks-for-requires c κs = search needs
-
-set-request-requires : tie.Need-set-request-requires
-set-request-requires c κs = search needs
-
 returns : tie.Need-returns
 returns c =
     let test = c .before .before in
@@ -37,5 +28,4 @@ returns-2 c =
 
 pub withdraw-spec : {M : Type 1} → statement M
 withdraw-spec =
-    tie.close
-    (tie.spec request-of-requires asks-for-requires set-request-requires returns returns-2)
+    tie.close (tie.spec (search needs) (search needs) (search needs) returns returns-2)

@@ -41,13 +41,13 @@ module _ (a b : Rank) (apart : sameRank a b ≡ false) where
       ap length (select-map (picks (onChannel a b)) (changeEach (picks (onChannel b a)) (relabelled EndList)) on-one l) ∙ simp length-map
 
   pub part-done :
-      {slots contents slots1 slots2 : List ℕ} {n1 n2 : ℕ} {ranks' : State} (ranks : State) →
+      {slots contents slots1 slots2 : List ℕ} {n1 n2 : ℕ} {after : State} (known : State) →
       Relabelled (onChannel b a) EndList slots contents n1 slots1 →
       Relabelled (onChannel a b) EndList slots1 contents n2 slots2 →
-      ranks' ≡ connectBoth a b Closed ranks →
-      done (withUnread (unreadIn slots2 contents) ranks') n1 n2 0 ≡ part a b (withUnread (unreadIn slots contents) ranks)
+      after ≡ connectBoth a b Closed known →
+      done (withUnread (unreadIn slots2 contents) after) n1 n2 0 ≡ part a b (withUnread (unreadIn slots contents) known)
   unfolding part
-  part-done {slots} {contents} {n1 = n1} {n2 = n2} {ranks'} ranks read both lines =
+  part-done {slots} {contents} {n1 = n1} {n2 = n2} {after} known read both lines =
       let moved = relabelled-unread both ∙ ap (relabelAll (onChannel a b) EndList) (relabelled-unread read) in
-      ap (λ (u : Unread). done (withUnread u ranks') n1 n2 0) moved ∙
+      ap (λ (u : Unread). done (withUnread u after) n1 n2 0) moved ∙
       rw (lines, both .moved, read .moved, read .same, other-channel (messagesIn slots contents))

@@ -19,13 +19,13 @@ withdraw-unread a b u s = at (asksFor b (request s a))
     at false = refl
 
 pub routed-there :
-    (a b : Rank) (v : Vmid) (u : Unread) (ranks : State) {joined answered crossed : State} →
-    joined ≡ connectBoth a b Open ranks →
+    (a b : Rank) (v : Vmid) (u : Unread) (known : State) {joined answered crossed : State} →
+    joined ≡ connectBoth a b Open known →
     answered ≡ withdraw a b joined →
     crossed ≡ withdraw b a answered →
-    done (withUnread u crossed) 0 (v .0) (v .1) ≡ routeThere a b v (withUnread u ranks)
-routed-there a b v u ranks join answer cross =
-    let both = connectBoth a b Open ranks in
+    done (withUnread u crossed) 0 (v .0) (v .1) ≡ routeThere a b v (withUnread u known)
+routed-there a b v u known join answer cross =
+    let both = connectBoth a b Open known in
     ap (λ (s : State). done s 0 (v .0) (v .1))
     (ap (withUnread u) (cross ∙ ap (withdraw b a) (answer ∙ ap (withdraw a b) join)) ∙
     withdraw-unread b a u (withdraw a b both) ∙

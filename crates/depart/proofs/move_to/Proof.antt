@@ -9,36 +9,6 @@ use Rattle.depart.specs.Laws.Done.{move-done}
 use Rattle.depart.proofs.move_to.Statement.{statement}
 use Rattle.depart.proofs.move_to.Tie as tie
 
-drawn-on-requires : tie.Need-drawn-on-requires
-drawn-on-requires c κs = search needs
-
-add-number : tie.Need-add-number
-add-number c = search needs
-
-standing-of-requires : tie.Need-standing-of-requires
-standing-of-requires c κs = search needs
-
-endpoint-requires : tie.Need-endpoint-requires
-endpoint-requires c κs = search needs
-
-set-drawn-requires : tie.Need-set-drawn-requires
-set-drawn-requires c κs = search needs
-
-set-standing-requires : tie.Need-set-standing-requires
-set-standing-requires c κs = search needs
-
-leave-behind-requires : tie.Need-leave-behind-requires
-leave-behind-requires c κs = search needs
-
-leave-all-requires : tie.Need-leave-all-requires
-leave-all-requires c κs = search needs
-
-awaits-requires : tie.Need-awaits-requires
-awaits-requires c κs = search needs
-
-cast-t21 : tie.Need-cast-t21
-cast-t21 c = search needs
-
 returns : tie.Need-returns
 returns c = λ contents m.
     let left = c .before .before in
@@ -61,16 +31,5 @@ returns c = λ contents m.
 
 pub move-to-spec : {M : Type 1} → statement M
 move-to-spec =
-    tie.close
-    (tie.spec
-    drawn-on-requires
-    add-number
-    standing-of-requires
-    endpoint-requires
-    set-drawn-requires
-    set-standing-requires
-    leave-behind-requires
-    leave-all-requires
-    awaits-requires
-    cast-t21
-    returns)
+    tie.close (tie.spec (search needs) (search needs) (search needs) (search needs) (search needs) (search needs)
+    (search needs) (search needs) (search needs) (search needs) returns)

@@ -6,18 +6,6 @@ use Rattle.depart.specs.Laws.Judged.{by-tests}
 use Rattle.depart.proofs.move_verdict.Statement.{statement}
 use Rattle.depart.proofs.move_verdict.Tie as tie
 
-standing-of-requires : tie.Need-standing-of-requires
-standing-of-requires c κs = search needs
-
-request-of-requires : tie.Need-request-of-requires
-request-of-requires c κs = search needs
-
-drawn-on-requires : tie.Need-drawn-on-requires
-drawn-on-requires c κs = search needs
-
-move-checked-requires : tie.Need-move-checked-requires
-move-checked-requires c κs = search needs
-
 returns : tie.Need-returns
 returns c = λ u.
     let request = c .before .before in
@@ -32,10 +20,4 @@ returns c = λ u.
 
 pub move-verdict-spec : {M : Type 1} → statement M
 move-verdict-spec =
-    tie.close
-    (tie.spec
-    standing-of-requires
-    request-of-requires
-    drawn-on-requires
-    move-checked-requires
-    returns)
+    tie.close (tie.spec (search needs) (search needs) (search needs) (search needs) returns)

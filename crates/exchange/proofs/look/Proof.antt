@@ -4,15 +4,6 @@ use Rattle.broker.specs.Messages.{look}
 use Rattle.exchange.proofs.look.Statement.{statement}
 use Rattle.exchange.proofs.look.Tie as tie
 
-first-to-requires : tie.Need-first-to-requires
-first-to-requires c κs = search needs
-
-sender-in-requires : tie.Need-sender-in-requires
-sender-in-requires c κs = search needs
-
-cast-t6 : tie.Need-cast-t6
-cast-t6 c = search needs
-
 returns : tie.Need-returns
 unfolding look
 returns c = λ roster whole.
@@ -23,4 +14,5 @@ returns c = λ roster whole.
     }
 
 pub look-spec : {M : Type 1} → statement M
-look-spec = tie.close (tie.spec first-to-requires sender-in-requires cast-t6 returns)
+look-spec =
+    tie.close (tie.spec (search needs) (search needs) (search needs) returns)

@@ -5,15 +5,6 @@ use Rattle.exchange.specs.Laws.Judged.{by-tests}
 use Rattle.exchange.proofs.look_verdict.Statement.{statement}
 use Rattle.exchange.proofs.look_verdict.Tie as tie
 
-standing-of-requires : tie.Need-standing-of-requires
-standing-of-requires c κs = search needs
-
-first-to-requires : tie.Need-first-to-requires
-first-to-requires c κs = search needs
-
-look-checked-requires : tie.Need-look-checked-requires
-look-checked-requires c κs = search needs
-
 returns : tie.Need-returns
 returns c =
     let args = c .before .before .before .args in
@@ -26,4 +17,4 @@ returns c =
 
 pub look-verdict-spec : {M : Type 1} → statement M
 look-verdict-spec =
-    tie.close (tie.spec standing-of-requires first-to-requires look-checked-requires returns)
+    tie.close (tie.spec (search needs) (search needs) (search needs) returns)

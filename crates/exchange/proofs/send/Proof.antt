@@ -8,18 +8,6 @@ use Rattle.exchange.specs.Laws.Done.{send-done}
 use Rattle.exchange.proofs.send.Statement.{statement}
 use Rattle.exchange.proofs.send.Tie as tie
 
-link-between-requires : tie.Need-link-between-requires
-link-between-requires c κs = search needs
-
-place-over-requires : tie.Need-place-over-requires
-place-over-requires c κs = search needs
-
-append-requires : tie.Need-append-requires
-append-requires c κs = search needs
-
-cast-t14 : tie.Need-cast-t14
-cast-t14 c = search needs
-
 returns : tie.Need-returns
 returns c =
     let placed = c .before .before .before in
@@ -34,4 +22,4 @@ returns c =
 
 pub send-spec : {M : Type 1} → statement M
 send-spec =
-    tie.close (tie.spec link-between-requires place-over-requires append-requires cast-t14 returns)
+    tie.close (tie.spec (search needs) (search needs) (search needs) (search needs) returns)

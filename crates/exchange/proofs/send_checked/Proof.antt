@@ -3,21 +3,6 @@ use borrow.Author.Needs.{needs}
 use Rattle.exchange.proofs.send_checked.Statement.{statement}
 use Rattle.exchange.proofs.send_checked.Tie as tie
 
-on-two-requires : tie.Need-on-two-requires
-on-two-requires c κs = search needs
-
-running-requires : tie.Need-running-requires
-running-requires c κs = search needs
-
-is-closed-requires : tie.Need-is-closed-requires
-is-closed-requires c κs = search needs
-
-unless-requires : tie.Need-unless-requires
-unless-requires c κs = search needs
-
-unless-requires-2 : tie.Need-unless-requires-2
-unless-requires-2 c κs = search needs
-
 returns : tie.Need-returns
 returns c =
     let line = c .before .before in
@@ -31,11 +16,4 @@ returns c =
 
 pub send-checked-spec : {M : Type 1} → statement M
 send-checked-spec =
-    tie.close
-    (tie.spec
-    on-two-requires
-    running-requires
-    is-closed-requires
-    unless-requires
-    unless-requires-2
-    returns)
+    tie.close (tie.spec (search needs) (search needs) (search needs) (search needs) (search needs) returns)

@@ -5,21 +5,6 @@ use Rattle.exchange.specs.Laws.Judged.{by-tests}
 use Rattle.exchange.proofs.send_verdict.Statement.{statement}
 use Rattle.exchange.proofs.send_verdict.Tie as tie
 
-standing-of-requires : tie.Need-standing-of-requires
-standing-of-requires c κs = search needs
-
-standing-of-requires-2 : tie.Need-standing-of-requires-2
-standing-of-requires-2 c κs = search needs
-
-link-between-requires : tie.Need-link-between-requires
-link-between-requires c κs = search needs
-
-unread-requires : tie.Need-unread-requires
-unread-requires c κs = search needs
-
-send-checked-requires : tie.Need-send-checked-requires
-send-checked-requires c κs = search needs
-
 returns : tie.Need-returns
 returns c = λ contents value m.
     let line = c .before .before in
@@ -35,11 +20,4 @@ returns c = λ contents value m.
 
 pub send-verdict-spec : {M : Type 1} → statement M
 send-verdict-spec =
-    tie.close
-    (tie.spec
-    standing-of-requires
-    standing-of-requires-2
-    link-between-requires
-    unread-requires
-    send-checked-requires
-    returns)
+    tie.close (tie.spec (search needs) (search needs) (search needs) (search needs) (search needs) returns)

@@ -5,12 +5,6 @@ use Rattle.exchange.specs.Laws.Done.{take-done}
 use Rattle.exchange.proofs.take.Statement.{statement}
 use Rattle.exchange.proofs.take.Tie as tie
 
-remove-requires : tie.Need-remove-requires
-remove-requires c κs = search needs
-
-cast-t7 : tie.Need-cast-t7
-cast-t7 c = search needs
-
 returns : tie.Need-returns
 returns c = λ roster whole.
     let left = c .before .remove .ensures in
@@ -23,4 +17,5 @@ returns c = λ roster whole.
     }
 
 pub take-spec : {M : Type 1} → statement M
-take-spec = tie.close (tie.spec remove-requires cast-t7 returns)
+take-spec =
+    tie.close (tie.spec (search needs) (search needs) returns)

@@ -5,18 +5,6 @@ use Rattle.exchange.specs.Laws.Judged.{by-tests}
 use Rattle.exchange.proofs.take_verdict.Statement.{statement}
 use Rattle.exchange.proofs.take_verdict.Tie as tie
 
-standing-of-requires : tie.Need-standing-of-requires
-standing-of-requires c κs = search needs
-
-standing-of-requires-2 : tie.Need-standing-of-requires-2
-standing-of-requires-2 c κs = search needs
-
-unread-between-requires : tie.Need-unread-between-requires
-unread-between-requires c κs = search needs
-
-take-checked-requires : tie.Need-take-checked-requires
-take-checked-requires c κs = search needs
-
 returns : tie.Need-returns
 returns c = λ contents m.
     let standing = c .before .before in
@@ -31,10 +19,4 @@ returns c = λ contents m.
 
 pub take-verdict-spec : {M : Type 1} → statement M
 take-verdict-spec =
-    tie.close
-    (tie.spec
-    standing-of-requires
-    standing-of-requires-2
-    unread-between-requires
-    take-checked-requires
-    returns)
+    tie.close (tie.spec (search needs) (search needs) (search needs) (search needs) returns)

@@ -7,7 +7,7 @@ use lib.ListN.{length}
 use Rattle.transit.specs.Laws.Promise.{appended-unread, left-unread}
 use Rattle.base.specs.Lists.{tally}
 use Rattle.transit.specs.Mail.{Appended, Left, messagesIn, unreadIn}
-use Rattle.transit.specs.Message.{between}
+use Rattle.transit.specs.Message.{between, ranks}
 use Rattle.transit.specs.Unread.{limit}
 use Rattle.transit.specs.declared.Place.{Place}
 use Rattle.transit.specs.declared.Rank.{Rank}
@@ -17,25 +17,25 @@ use Rattle.broker.specs.Messages.{placeOver, send, take}
 use Rattle.broker.specs.Sound.{sound}
 use Rattle.broker.specs.State.{State, connection, withUnread}
 
-module _ (a b : Rank) (ranks : State) {slots contents slots' : List ℕ} where
+module _ (a b : Rank) (known : State) {slots contents slots' : List ℕ} where
   -- the message is behind all others
   pub send-done :
       {contents' : List ℕ} {n : ℕ} (v : ℕ) (p : Place) →
-      p ≡ placeOver (connection ranks a b) →
+      p ≡ placeOver (connection known a b) →
       Appended (record { sender = a; receiver = b; place = p; value = v }) slots contents n slots' contents' →
       length (messagesIn slots contents) < limit →
-      done (withUnread (unreadIn slots' contents') ranks) n 0 0 ≡ send a b v (withUnread (unreadIn slots contents) ranks)
+      done (withUnread (unreadIn slots' contents') known) n 0 0 ≡ send a b v (withUnread (unreadIn slots contents) known)
   unfolding send
   send-done v p e x room = rw (x .pair, ← e, appended-unread x room)
 
   -- the pair's first message has left, which in a sound state is the first in place order
   pub take-done :
       {value rest : ℕ} → Left a b slots contents value rest slots' →
-      a .0 < 16 → b .0 < 16 →
+      a .0 < ranks → b .0 < ranks →
       0 < tally (between a b) (messagesIn slots contents) →
-      sound (withUnread (unreadIn slots contents) ranks) ≡ true →
-      done (withUnread (unreadIn slots' contents) ranks) value rest 0 ≡ take b a (withUnread (unreadIn slots contents) ranks)
+      sound (withUnread (unreadIn slots contents) known) ≡ true →
+      done (withUnread (unreadIn slots' contents) known) value rest 0 ≡ take b a (withUnread (unreadIn slots contents) known)
   unfolding take
   take-done x in-a in-b some ok =
-      let s = withUnread (unreadIn slots contents) ranks in
+      let s = withUnread (unreadIn slots contents) known in
       rw (left-unread x some (facts s ok .mail .places-rise a b in-a in-b), x .found, x .pair)

@@ -4,15 +4,6 @@ use Rattle.broker.specs.Life.{end}
 use Rattle.life.proofs.end.Statement.{statement}
 use Rattle.life.proofs.end.Tie as tie
 
-standing-of-requires : tie.Need-standing-of-requires
-standing-of-requires c κs = search needs
-
-endpoint-requires : tie.Need-endpoint-requires
-endpoint-requires c κs = search needs
-
-set-standing-requires : tie.Need-set-standing-requires
-set-standing-requires c κs = search needs
-
 returns : tie.Need-returns
 unfolding end
 returns c =
@@ -28,4 +19,4 @@ returns c =
 
 pub end-spec : {M : Type 1} → statement M
 end-spec =
-    tie.close (tie.spec standing-of-requires endpoint-requires set-standing-requires returns)
+    tie.close (tie.spec (search needs) (search needs) (search needs) returns)

@@ -4,24 +4,6 @@ use Rattle.broker.specs.Life.{start}
 use Rattle.life.proofs.start.Statement.{statement}
 use Rattle.life.proofs.start.Tie as tie
 
-drawn-on-requires : tie.Need-drawn-on-requires
-drawn-on-requires c κs = search needs
-
-add-number : tie.Need-add-number
-add-number c = search needs
-
-set-drawn-requires : tie.Need-set-drawn-requires
-set-drawn-requires c κs = search needs
-
-set-standing-requires : tie.Need-set-standing-requires
-set-standing-requires c κs = search needs
-
-announce-requires : tie.Need-announce-requires
-announce-requires c κs = search needs
-
-cast-t14 : tie.Need-cast-t14
-cast-t14 c = search needs
-
 returns : tie.Need-returns
 unfolding start
 returns c =
@@ -39,12 +21,5 @@ returns c =
 
 pub start-spec : {M : Type 1} → statement M
 start-spec =
-    tie.close
-    (tie.spec
-    drawn-on-requires
-    add-number
-    set-drawn-requires
-    set-standing-requires
-    announce-requires
-    cast-t14
+    tie.close (tie.spec (search needs) (search needs) (search needs) (search needs) (search needs) (search needs)
     returns)

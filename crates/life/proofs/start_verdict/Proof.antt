@@ -6,15 +6,6 @@ use Rattle.life.specs.Laws.Judged.{by-tests}
 use Rattle.life.proofs.start_verdict.Statement.{statement}
 use Rattle.life.proofs.start_verdict.Tie as tie
 
-standing-of-requires : tie.Need-standing-of-requires
-standing-of-requires c κs = search needs
-
-drawn-on-requires : tie.Need-drawn-on-requires
-drawn-on-requires c κs = search needs
-
-start-checked-requires : tie.Need-start-checked-requires
-start-checked-requires c κs = search needs
-
 returns : tie.Need-returns
 returns c = λ u.
     let args = c .before .before .before .args in
@@ -27,4 +18,4 @@ returns c = λ u.
 
 pub start-verdict-spec : {M : Type 1} → statement M
 start-verdict-spec =
-    tie.close (tie.spec standing-of-requires drawn-on-requires start-checked-requires returns)
+    tie.close (tie.spec (search needs) (search needs) (search needs) returns)

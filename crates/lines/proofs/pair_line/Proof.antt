@@ -6,21 +6,6 @@ use Rattle.lines.specs.Laws.Parts.{pair-parts}
 use Rattle.lines.proofs.pair_line.Statement.{statement}
 use Rattle.lines.proofs.pair_line.Tie as tie
 
-put-four-bytes-requires : tie.Need-put-four-bytes-requires
-put-four-bytes-requires c κs = search needs
-
-put-two-numbers-requires : tie.Need-put-two-numbers-requires
-put-two-numbers-requires c κs = search needs
-
-put-four-numbers-requires : tie.Need-put-four-numbers-requires
-put-four-numbers-requires c κs = search needs
-
-put-byte-requires : tie.Need-put-byte-requires
-put-byte-requires c κs = search needs
-
-same-length : tie.Need-same-length
-same-length c = search needs
-
 returns : tie.Need-returns
 returns c =
     let last = c .before .before in
@@ -34,11 +19,4 @@ returns c =
 
 pub pair-line-spec : {M : Type 1} → statement M
 pair-line-spec =
-    tie.close
-    (tie.spec
-    put-four-bytes-requires
-    put-two-numbers-requires
-    put-four-numbers-requires
-    put-byte-requires
-    same-length
-    returns)
+    tie.close (tie.spec (search needs) (search needs) (search needs) (search needs) (search needs) returns)

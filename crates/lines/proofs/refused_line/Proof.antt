@@ -8,27 +8,6 @@ use Rattle.lines.specs.Laws.Parts.{record-parts}
 use Rattle.lines.proofs.refused_line.Statement.{statement}
 use Rattle.lines.proofs.refused_line.Tie as tie
 
-number-requires : tie.Need-number-requires
-number-requires c κs = search needs
-
-put-decimal-requires : tie.Need-put-decimal-requires
-put-decimal-requires c κs = search needs
-
-put-hex-requires : tie.Need-put-hex-requires
-put-hex-requires c κs = search needs
-
-cast-put-four-numbers : tie.Need-cast-put-four-numbers
-cast-put-four-numbers c = search needs
-
-put-four-numbers-requires : tie.Need-put-four-numbers-requires
-put-four-numbers-requires c κs = search needs
-
-put-byte-requires : tie.Need-put-byte-requires
-put-byte-requires c κs = search needs
-
-same-length : tie.Need-same-length
-same-length c = search needs
-
 returns : tie.Need-returns
 returns c =
     let last = c .before .before in
@@ -44,13 +23,5 @@ returns c =
 
 pub refused-line-spec : {M : Type 1} → statement M
 refused-line-spec =
-    tie.close
-    (tie.spec
-    number-requires
-    put-decimal-requires
-    put-hex-requires
-    cast-put-four-numbers
-    put-four-numbers-requires
-    put-byte-requires
-    same-length
-    returns)
+    tie.close (tie.spec (search needs) (search needs) (search needs) (search needs) (search needs) (search needs)
+    (search needs) returns)

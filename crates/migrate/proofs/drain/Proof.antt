@@ -7,20 +7,8 @@ use Rattle.migrate.specs.Laws.Done.{drain-message, drain-marker}
 use Rattle.migrate.proofs.drain.Statement.{statement}
 use Rattle.migrate.proofs.drain.Tie as tie
 
-first-at-requires : tie.Need-first-at-requires
-first-at-requires c κs = search needs
-
-enum-known-found : tie.Need-enum-known-found
-enum-known-found c = search needs
-
-relabel-first-requires : tie.Need-relabel-first-requires
-relabel-first-requires c κs = search needs
-
 enum-told : tie.Need-enum-told
 enum-told c = search needs
-
-awaiting-requires : tie.Need-awaiting-requires
-awaiting-requires c κs = search needs
 
 returns : tie.Need-returns
 returns c =
@@ -50,12 +38,4 @@ returns-2 c =
 
 pub drain-spec : {M : Type 1} → statement M
 drain-spec =
-    tie.close
-    (tie.spec
-    first-at-requires
-    enum-known-found
-    relabel-first-requires
-    enum-told
-    awaiting-requires
-    returns
-    returns-2)
+    tie.close (tie.spec (search needs) (search needs) (search needs) enum-told (search needs) returns returns-2)

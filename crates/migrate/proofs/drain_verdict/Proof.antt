@@ -5,21 +5,6 @@ use Rattle.migrate.specs.Laws.Judged.{by-tests}
 use Rattle.migrate.proofs.drain_verdict.Statement.{statement}
 use Rattle.migrate.proofs.drain_verdict.Tie as tie
 
-standing-of-requires : tie.Need-standing-of-requires
-standing-of-requires c κs = search needs
-
-standing-of-requires-2 : tie.Need-standing-of-requires-2
-standing-of-requires-2 c κs = search needs
-
-link-between-requires : tie.Need-link-between-requires
-link-between-requires c κs = search needs
-
-first-at-requires : tie.Need-first-at-requires
-first-at-requires c κs = search needs
-
-drain-checked-requires : tie.Need-drain-checked-requires
-drain-checked-requires c κs = search needs
-
 returns : tie.Need-returns
 returns c =
     let line = c .before .before in
@@ -35,11 +20,4 @@ returns c =
 
 pub drain-verdict-spec : {M : Type 1} → statement M
 drain-verdict-spec =
-    tie.close
-    (tie.spec
-    standing-of-requires
-    standing-of-requires-2
-    link-between-requires
-    first-at-requires
-    drain-checked-requires
-    returns)
+    tie.close (tie.spec (search needs) (search needs) (search needs) (search needs) (search needs) returns)

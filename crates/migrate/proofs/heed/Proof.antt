@@ -5,18 +5,6 @@ use Rattle.migrate.specs.Laws.Done.{heed-done}
 use Rattle.migrate.proofs.heed.Statement.{statement}
 use Rattle.migrate.proofs.heed.Tie as tie
 
-relabel-between-requires : tie.Need-relabel-between-requires
-relabel-between-requires c κs = search needs
-
-connect-requires : tie.Need-connect-requires
-connect-requires c κs = search needs
-
-awaiting-requires : tie.Need-awaiting-requires
-awaiting-requires c κs = search needs
-
-cast-t14 : tie.Need-cast-t14
-cast-t14 c = search needs
-
 returns : tie.Need-returns
 returns c = λ contents m.
     let closed = c .before .before in
@@ -31,5 +19,4 @@ returns c = λ contents m.
 
 pub heed-spec : {M : Type 1} → statement M
 heed-spec =
-    tie.close
-    (tie.spec relabel-between-requires connect-requires awaiting-requires cast-t14 returns)
+    tie.close (tie.spec (search needs) (search needs) (search needs) (search needs) returns)

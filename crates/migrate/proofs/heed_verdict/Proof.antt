@@ -6,18 +6,6 @@ use Rattle.migrate.specs.Laws.Judged.{by-tests}
 use Rattle.migrate.proofs.heed_verdict.Statement.{statement}
 use Rattle.migrate.proofs.heed_verdict.Tie as tie
 
-standing-of-requires : tie.Need-standing-of-requires
-standing-of-requires c κs = search needs
-
-standing-of-requires-2 : tie.Need-standing-of-requires-2
-standing-of-requires-2 c κs = search needs
-
-link-between-requires : tie.Need-link-between-requires
-link-between-requires c κs = search needs
-
-heed-checked-requires : tie.Need-heed-checked-requires
-heed-checked-requires c κs = search needs
-
 returns : tie.Need-returns
 returns c = λ u.
     let standing = c .before .before in
@@ -32,10 +20,4 @@ returns c = λ u.
 
 pub heed-verdict-spec : {M : Type 1} → statement M
 heed-verdict-spec =
-    tie.close
-    (tie.spec
-    standing-of-requires
-    standing-of-requires-2
-    link-between-requires
-    heed-checked-requires
-    returns)
+    tie.close (tie.spec (search needs) (search needs) (search needs) (search needs) returns)

@@ -11,24 +11,6 @@ use Rattle.migrate.specs.Laws.Done.{land-done}
 use Rattle.migrate.proofs.land.Statement.{statement}
 use Rattle.migrate.proofs.land.Tie as tie
 
-standing-of-requires : tie.Need-standing-of-requires
-standing-of-requires c κs = search needs
-
-endpoint-requires : tie.Need-endpoint-requires
-endpoint-requires c κs = search needs
-
-relabel-to-requires : tie.Need-relabel-to-requires
-relabel-to-requires c κs = search needs
-
-set-standing-requires : tie.Need-set-standing-requires
-set-standing-requires c κs = search needs
-
-count-to-requires : tie.Need-count-to-requires
-count-to-requires c κs = search needs
-
-cast-t16 : tie.Need-cast-t16
-cast-t16 c = search needs
-
 returns : tie.Need-returns
 returns c = λ contents m.
     let running = c .before .before in
@@ -46,12 +28,5 @@ returns c = λ contents m.
 
 pub land-spec : {M : Type 1} → statement M
 land-spec =
-    tie.close
-    (tie.spec
-    standing-of-requires
-    endpoint-requires
-    relabel-to-requires
-    set-standing-requires
-    count-to-requires
-    cast-t16
+    tie.close (tie.spec (search needs) (search needs) (search needs) (search needs) (search needs) (search needs)
     returns)

@@ -6,15 +6,6 @@ use Rattle.migrate.specs.Laws.Judged.{by-tests}
 use Rattle.migrate.proofs.land_verdict.Statement.{statement}
 use Rattle.migrate.proofs.land_verdict.Tie as tie
 
-standing-of-requires : tie.Need-standing-of-requires
-standing-of-requires c κs = search needs
-
-awaits-requires : tie.Need-awaits-requires
-awaits-requires c κs = search needs
-
-land-checked-requires : tie.Need-land-checked-requires
-land-checked-requires c κs = search needs
-
 returns : tie.Need-returns
 returns c = λ u.
     let args = c .before .before .before .args in
@@ -27,4 +18,4 @@ returns c = λ u.
 
 pub land-verdict-spec : {M : Type 1} → statement M
 land-verdict-spec =
-    tie.close (tie.spec standing-of-requires awaits-requires land-checked-requires returns)
+    tie.close (tie.spec (search needs) (search needs) (search needs) returns)

@@ -22,14 +22,14 @@ use Rattle.broker.specs.declared.link.Backlog.the-variants.{Clear, Marked}
 use Rattle.broker.specs.declared.link.Connection.the-variants.{Closed}
 use Rattle.broker.specs.declared.process.Status.the-variants.{Running}
 
-module _ (ranks : State) {slots contents slots' : List ℕ} where
+module _ (known : State) {slots contents slots' : List ℕ} where
   -- the channel is read, the line closes, and the mover's await is marked
   pub heed-done :
       (b r : Rank) {n : ℕ} {closed marked : State} →
       Relabelled (onChannel r b) EndList slots contents n slots' →
-      closed ≡ withLinks (connect b r Closed (ranks .links)) ranks →
+      closed ≡ withLinks (connect b r Closed (known .links)) known →
       marked ≡ withLinks (await r b Marked (closed .links)) closed →
-      done (withUnread (unreadIn slots' contents) marked) n 0 0 ≡ heed b r (withUnread (unreadIn slots contents) ranks)
+      done (withUnread (unreadIn slots' contents) marked) n 0 0 ≡ heed b r (withUnread (unreadIn slots contents) known)
   unfolding heed
   heed-done b r {n} {marked = marked} read closes marks =
       ap (λ (u : Unread). done (withUnread u marked) n 0 0) (relabelled-unread read) ∙ rw (marks, closes, read .moved)
@@ -39,18 +39,18 @@ module _ (ranks : State) {slots contents slots' : List ℕ} where
       (r p : Rank) (m : Message) →
       First m ≡ firstSent (onSourceChannel p r) (unreadIn slots contents) →
       FirstRelabelled (onSourceChannel p r) SourceList slots contents slots' →
-      done (withUnread (unreadIn slots' contents) ranks) 0 (m .value) 0 ≡ drain r p (withUnread (unreadIn slots contents) ranks)
+      done (withUnread (unreadIn slots' contents) known) 0 (m .value) 0 ≡ drain r p (withUnread (unreadIn slots contents) known)
   unfolding drain
   drain-message r p m found read =
-      ap (λ (u : Unread). done (withUnread u ranks) 0 (m .value) 0) (first-relabelled-unread read) ∙ rw (← found)
+      ap (λ (u : Unread). done (withUnread u known) 0 (m .value) 0) (first-relabelled-unread read) ∙ rw (← found)
 
   -- the arrival has the mover's list, and runs
   pub land-done :
       (r : Rank) {n k : ℕ} {running : State} →
       Relabelled (ToAt r SourceList) EndList slots contents k slots' →
-      running ≡ withStatus r (Running (endpoint (status ranks r))) ranks →
+      running ≡ withStatus r (Running (endpoint (status known r))) known →
       n ≡ tally (picks (ToAt r EndList)) (messagesIn slots' contents) →
-      done (withUnread (unreadIn slots' contents) running) n 0 0 ≡ land r (withUnread (unreadIn slots contents) ranks)
+      done (withUnread (unreadIn slots' contents) running) n 0 0 ≡ land r (withUnread (unreadIn slots contents) known)
   unfolding land
   land-done r {running = running} moved runs counted =
       rw counted
@@ -60,9 +60,9 @@ module _ (ranks : State) {slots contents slots' : List ℕ} where
 
 -- the end marker is read
 pub drain-marker :
-    (ranks : State) (r p : Rank) (u : Unread) {cleared : State} →
+    (known : State) (r p : Rank) (u : Unread) {cleared : State} →
     Nothing ≡ firstSent (onSourceChannel p r) u →
-    cleared ≡ withLinks (await r p Clear (ranks .links)) ranks →
-    done (withUnread u cleared) 1 0 0 ≡ drain r p (withUnread u ranks)
+    cleared ≡ withLinks (await r p Clear (known .links)) known →
+    done (withUnread u cleared) 1 0 0 ≡ drain r p (withUnread u known)
 unfolding drain
-drain-marker ranks r p u found clears = rw (← found, clears)
+drain-marker known r p u found clears = rw (← found, clears)

@@ -22,9 +22,6 @@ Inv-loop page₀ used n end at₀ rest₀ page at rest =
 abbrev μ-loop : tie.MeasureT-loop
 μ-loop page₀ used n end at₀ rest₀ page at rest = rest
 
-width-requires : tie.Need-width-requires Inv-loop μ-loop
-width-requires c κs = search needs
-
 add-end : tie.Need-add-end Inv-loop μ-loop
 add-end c = omega (arith, length-of-word (c .before .before .args .n) (omega arith))
 
@@ -33,12 +30,6 @@ loop-holds c = (refl, omega arith, length-of-word (c .before .before .args .n) (
 
 sub-at : tie.Need-sub-at Inv-loop μ-loop
 sub-at c = omega (arith, length-two (c .before .loop .rest) (omega arith))
-
-put-two-digits-requires : tie.Need-put-two-digits-requires Inv-loop μ-loop
-put-two-digits-requires c κs = search needs
-
-loop-less : tie.Need-loop-less Inv-loop μ-loop
-loop-less c = search needs
 
 loop-again : tie.Need-loop-again Inv-loop μ-loop
 loop-again c =
@@ -51,21 +42,6 @@ loop-again c =
     let digits = two-first (here .page) used (here .rest) (here .at) more (here .inv .1) in
     (rw (put .ensures) (digits ∙ here .inv .0), omega arith, omega arith, rw (put .ensures, length-sets) (here .inv .3))
 
-put-two-digits-requires-2 : tie.Need-put-two-digits-requires-2 Inv-loop μ-loop
-put-two-digits-requires-2 c κs = search needs
-
-cast-page : tie.Need-cast-page Inv-loop μ-loop
-cast-page c = search needs
-
-add-page : tie.Need-add-page Inv-loop μ-loop
-add-page c = search needs
-
-slice-write-page : tie.Need-slice-write-page Inv-loop μ-loop
-slice-write-page c = search needs
-
-same-length : tie.Need-same-length Inv-loop μ-loop
-same-length c = search needs
-
 returns : tie.Need-returns Inv-loop μ-loop
 returns c =
     let put = c .before .before .put-two-digits2 in
@@ -77,9 +53,6 @@ returns c =
     (omega arith)
     (put .ensures ∙ (rw pair at (head .loop .inv .0)))
     (omega arith)
-
-same-length-2 : tie.Need-same-length-2 Inv-loop μ-loop
-same-length-2 c = search needs
 
 returns-2 : tie.Need-returns-2 Inv-loop μ-loop
 returns-2 c =
@@ -94,22 +67,6 @@ returns-2 c =
 
 pub put-decimal-spec : {M : Type 1} → statement M
 put-decimal-spec =
-    tie.close
-    (tie.spec
-    Inv-loop
-    μ-loop
-    width-requires
-    add-end
-    loop-holds
-    sub-at
-    put-two-digits-requires
-    loop-less
-    loop-again
-    put-two-digits-requires-2
-    cast-page
-    add-page
-    slice-write-page
-    same-length
-    returns
-    same-length-2
+    tie.close (tie.spec Inv-loop μ-loop (search needs) add-end loop-holds sub-at (search needs) (search needs)
+    loop-again (search needs) (search needs) (search needs) (search needs) (search needs) returns (search needs)
     returns-2)

@@ -4,21 +4,6 @@ use Rattle.page.specs.Laws.Put.{_then_}
 use Rattle.page.proofs.put_four_bytes.Statement.{statement}
 use Rattle.page.proofs.put_four_bytes.Tie as tie
 
-put-byte-requires : tie.Need-put-byte-requires
-put-byte-requires c κs = search needs
-
-put-byte-requires-2 : tie.Need-put-byte-requires-2
-put-byte-requires-2 c κs = search needs
-
-put-byte-requires-3 : tie.Need-put-byte-requires-3
-put-byte-requires-3 c κs = search needs
-
-put-byte-requires-4 : tie.Need-put-byte-requires-4
-put-byte-requires-4 c κs = search needs
-
-same-length : tie.Need-same-length
-same-length c = search needs
-
 returns : tie.Need-returns
 returns c =
     let fourth = c .before .before in
@@ -29,5 +14,4 @@ returns c =
 
 pub put-four-bytes-spec : {M : Type 1} → statement M
 put-four-bytes-spec =
-    tie.close
-    (tie.spec put-byte-requires put-byte-requires-2 put-byte-requires-3 put-byte-requires-4 same-length returns)
+    tie.close (tie.spec (search needs) (search needs) (search needs) (search needs) (search needs) returns)

@@ -6,15 +6,6 @@ use Rattle.page.specs.Laws.Text.{numbers-append}
 use Rattle.page.proofs.put_four_numbers.Statement.{statement}
 use Rattle.page.proofs.put_four_numbers.Tie as tie
 
-put-two-numbers-requires : tie.Need-put-two-numbers-requires
-put-two-numbers-requires c κs = search needs
-
-put-two-numbers-requires-2 : tie.Need-put-two-numbers-requires-2
-put-two-numbers-requires-2 c κs = search needs
-
-same-length : tie.Need-same-length
-same-length c = search needs
-
 returns : tie.Need-returns
 returns c =
     let second = c .before .before in
@@ -25,4 +16,4 @@ returns c =
 
 pub put-four-numbers-spec : {M : Type 1} → statement M
 put-four-numbers-spec =
-    tie.close (tie.spec put-two-numbers-requires put-two-numbers-requires-2 same-length returns)
+    tie.close (tie.spec (search needs) (search needs) (search needs) returns)

@@ -6,21 +6,6 @@ use Rattle.page.specs.Laws.Text.{decimal-one}
 use Rattle.page.proofs.put_number.Statement.{statement}
 use Rattle.page.proofs.put_number.Tie as tie
 
-put-byte-requires : tie.Need-put-byte-requires
-put-byte-requires c κs = search needs
-
-cast-put-byte : tie.Need-cast-put-byte
-cast-put-byte c = search needs
-
-add-put-byte : tie.Need-add-put-byte
-add-put-byte c = search needs
-
-put-byte-requires-2 : tie.Need-put-byte-requires-2
-put-byte-requires-2 c κs = search needs
-
-same-length : tie.Need-same-length
-same-length c = search needs
-
 returns : tie.Need-returns
 returns c =
     let second = c .before .before in
@@ -28,12 +13,6 @@ returns c =
     let first = tested .before .before .before in
     let n = first .before .before .before .args .n in
     rw (decimal-one n (tested .if1 .taken)) (at-most (omega arith) (first .put-byte .ensures then second .put-byte2 .ensures))
-
-put-decimal-requires : tie.Need-put-decimal-requires
-put-decimal-requires c κs = search needs
-
-same-length-2 : tie.Need-same-length-2
-same-length-2 c = search needs
 
 returns-2 : tie.Need-returns-2
 returns-2 c =
@@ -43,14 +22,5 @@ returns-2 c =
 
 pub put-number-spec : {M : Type 1} → statement M
 put-number-spec =
-    tie.close
-    (tie.spec
-    put-byte-requires
-    cast-put-byte
-    add-put-byte
-    put-byte-requires-2
-    same-length
-    returns
-    put-decimal-requires
-    same-length-2
-    returns-2)
+    tie.close (tie.spec (search needs) (search needs) (search needs) (search needs) (search needs) returns
+    (search needs) (search needs) returns-2)

@@ -5,15 +5,6 @@ use Rattle.page.specs.Laws.Text.{numbers-two}
 use Rattle.page.proofs.put_two_numbers.Statement.{statement}
 use Rattle.page.proofs.put_two_numbers.Tie as tie
 
-put-number-requires : tie.Need-put-number-requires
-put-number-requires c κs = search needs
-
-put-number-requires-2 : tie.Need-put-number-requires-2
-put-number-requires-2 c κs = search needs
-
-same-length : tie.Need-same-length
-same-length c = search needs
-
 returns : tie.Need-returns
 returns c =
     let second = c .before .before in
@@ -23,4 +14,4 @@ returns c =
 
 pub put-two-numbers-spec : {M : Type 1} → statement M
 put-two-numbers-spec =
-    tie.close (tie.spec put-number-requires put-number-requires-2 same-length returns)
+    tie.close (tie.spec (search needs) (search needs) (search needs) returns)

@@ -60,19 +60,5 @@ returns-4 c =
 
 pub width-spec : {M : Type 1} → statement M
 width-spec =
-    tie.close
-    (tie.spec
-    Inv-loop
-    μ-loop
-    loop-holds
-    add-k
-    loop-less
-    loop-again
-    add-result
-    returns
-    add-result-2
-    returns-2
-    add-result-3
-    returns-3
-    add-result-4
-    returns-4)
+    tie.close (tie.spec Inv-loop μ-loop loop-holds add-k loop-less loop-again add-result returns add-result-2 returns-2
+    add-result-3 returns-3 add-result-4 returns-4)

@@ -32,15 +32,6 @@ abbrev μ-loop : tie.MeasureT-loop
 μ-loop buffer₀ page₀ slots₀ contents₀ roster₀ held₀ base₀ done₀ t14 t15 t16 buffer page slots contents roster held base done =
     ahead held base done
 
-large-buffer-requires : tie.Need-large-buffer-requires Inv-loop μ-loop
-large-buffer-requires c κs = search needs
-
-large-buffer-requires-2 : tie.Need-large-buffer-requires-2 Inv-loop μ-loop
-large-buffer-requires-2 c κs = search needs
-
-open-fresh-requires : tie.Need-open-fresh-requires Inv-loop μ-loop
-open-fresh-requires c κs = search needs
-
 loop-holds : tie.Need-loop-holds Inv-loop μ-loop
 loop-holds c =
     let second = c .before .before .before .before in
@@ -53,36 +44,15 @@ loop-holds c =
       omega arith,
     )
 
-slice-aggregate-turn : tie.Need-slice-aggregate-turn Inv-loop μ-loop
-slice-aggregate-turn c = search needs
-
-slice-aggregate-turn-2 : tie.Need-slice-aggregate-turn-2 Inv-loop μ-loop
-slice-aggregate-turn-2 c = search needs
-
 turn-requires : tie.Need-turn-requires Inv-loop μ-loop
 turn-requires c κs =
     let inv = c .before .before .before .before .before .loop .inv in
     (inv .0, (omega arith, omega arith, omega arith))
 
-array-share-prefix-page : tie.Need-array-share-prefix-page Inv-loop μ-loop
-array-share-prefix-page c = search needs
-
 slice-aggregate-write-all : tie.Need-slice-aggregate-write-all Inv-loop μ-loop
 slice-aggregate-write-all c =
     let turn = c .before .before .before in
     sym (length-take-le (turn .turn .result .used) _ (turn .turn .ensures .1 .fits))
-
-write-all-requires : tie.Need-write-all-requires Inv-loop μ-loop
-write-all-requires c κs = search needs
-
-slice-aggregate-tell : tie.Need-slice-aggregate-tell Inv-loop μ-loop
-slice-aggregate-tell c = search needs
-
-tell-requires : tie.Need-tell-requires Inv-loop μ-loop
-tell-requires c κs = search needs
-
-returns : tie.Need-returns Inv-loop μ-loop
-returns c = search needs
 
 enum-told : tie.Need-enum-told Inv-loop μ-loop
 enum-told c = search needs
@@ -115,18 +85,6 @@ loop-again c =
       omega (arith, turned .holds, inv .4),
       omega (arith, turned .exact, again c .0, inv .4),
     )
-
-enum-told-2 : tie.Need-enum-told-2 Inv-loop μ-loop
-enum-told-2 c = search needs
-
-slice-aggregate-read-more : tie.Need-slice-aggregate-read-more Inv-loop μ-loop
-slice-aggregate-read-more c = search needs
-
-read-more-requires : tie.Need-read-more-requires Inv-loop μ-loop
-read-more-requires c κs = search needs
-
-enum-known-filled : tie.Need-enum-known-filled Inv-loop μ-loop
-enum-known-filled c = search needs
 
 -- Input is asked for, and read.
 asked :
@@ -173,71 +131,10 @@ loop-again-2 c =
       omega (arith, turned .exact, asked ask .0, inv .4),
     )
 
-enum-told-3 : tie.Need-enum-told-3 Inv-loop μ-loop
-enum-told-3 c = search needs
-
-slice-aggregate-tell-2 : tie.Need-slice-aggregate-tell-2 Inv-loop μ-loop
-slice-aggregate-tell-2 c = search needs
-
-tell-requires-2 : tie.Need-tell-requires-2 Inv-loop μ-loop
-tell-requires-2 c κs = search needs
-
-returns-2 : tie.Need-returns-2 Inv-loop μ-loop
-returns-2 c = search needs
-
-enum-told-4 : tie.Need-enum-told-4 Inv-loop μ-loop
-enum-told-4 c = search needs
-
-returns-3 : tie.Need-returns-3 Inv-loop μ-loop
-returns-3 c = search needs
-
-enum-told-5 : tie.Need-enum-told-5 Inv-loop μ-loop
-enum-told-5 c = search needs
-
-slice-aggregate-tell-3 : tie.Need-slice-aggregate-tell-3 Inv-loop μ-loop
-slice-aggregate-tell-3 c = search needs
-
-tell-requires-3 : tie.Need-tell-requires-3 Inv-loop μ-loop
-tell-requires-3 c κs = search needs
-
-returns-4 : tie.Need-returns-4 Inv-loop μ-loop
-returns-4 c = search needs
-
 pub main-spec : {M : Type 1} → statement M
 main-spec =
-    tie.close
-    (tie.spec
-    Inv-loop
-    μ-loop
-    large-buffer-requires
-    large-buffer-requires-2
-    open-fresh-requires
-    loop-holds
-    slice-aggregate-turn
-    slice-aggregate-turn-2
-    turn-requires
-    array-share-prefix-page
-    slice-aggregate-write-all
-    write-all-requires
-    slice-aggregate-tell
-    tell-requires
-    returns
-    enum-told
-    loop-less
-    loop-again
-    enum-told-2
-    slice-aggregate-read-more
-    read-more-requires
-    enum-known-filled
-    loop-less-2
-    loop-again-2
-    enum-told-3
-    slice-aggregate-tell-2
-    tell-requires-2
-    returns-2
-    enum-told-4
-    returns-3
-    enum-told-5
-    slice-aggregate-tell-3
-    tell-requires-3
-    returns-4)
+    tie.close (tie.spec Inv-loop μ-loop (search needs) (search needs) (search needs) loop-holds (search needs)
+    (search needs) turn-requires (search needs) slice-aggregate-write-all (search needs) (search needs) (search needs)
+    (search needs) enum-told loop-less loop-again (search needs) (search needs) (search needs) (search needs)
+    loop-less-2 loop-again-2 (search needs) (search needs) (search needs) (search needs) (search needs) (search needs)
+    (search needs) (search needs) (search needs) (search needs))

@@ -8,7 +8,7 @@ use native.Mathlib.Omega.{arith}
 use borrow.Author.Count.{below-more}
 use lib.ListN.{length, getD, set, drop, replicate, length-set, length-drop, length-replicate, getD-replicate}
 use lib.Seq.{ext-getD, length-take-le, getD-take, getD-drop, getD-set-same, getD-set-other}
-use Rattle.broker.specs.Names.{unknown}
+use Rattle.broker.specs.Names.{unknown, hosts}
 use Rattle.broker.specs.State.{idle, apart, fresh, withLocations, withLinks}
 use Rattle.broker.specs.declared.link.Link.{Link}
 use Rattle.broker.specs.declared.process.Process.{Process}
@@ -16,9 +16,22 @@ use Rattle.broker.specs.declared.process.Vmid.{Vmid}
 use Rattle.roster.specs.Laws.Columns.{processes-kept, locations-kept, links-kept, drawn-kept, by-columns}
 use Rattle.roster.specs.Laws.Numbers.{status-zero, request-zero, link-zero}
 use Rattle.base.specs.Laws.Tabulate.{tabulate-is}
+use Rattle.transit.specs.Message.{ranks, cells}
 use Rattle.roster.specs.Loaded.{withProcesses, withAllDrawn, rowOf, rowIn, Copied, Filled}
 use Rattle.roster.specs.Numbers.{vmidOf, statusOf, requestOf}
-use Rattle.roster.specs.Roster.{processIn, locationIn, linkIn, drawnIn, ranksOf, Holds}
+use Rattle.roster.specs.Roster.{
+  processIn,
+  locationIn,
+  linkIn,
+  drawnIn,
+  ranksOf,
+  Holds,
+  REQUESTS,
+  LOCATIONS,
+  LINKS,
+  DRAWN,
+  rosterLength,
+}
 
 module _ {A : Type 0} where
   -- one element more is copied
@@ -50,24 +63,24 @@ module _ {A : Type 0} where
 
 -- one process more is filled: its standing and its call
 pub fill-process : (ps : List Process) (n : ℕ) (before after : List ℕ) (v w : ℕ)
-    → Filled processIn idle ps n 0 32 before after → n < 16 → length after ≡ 552
+    → Filled processIn idle ps n 0 LOCATIONS before after → n < ranks → length after ≡ rosterLength
     → record { status = statusOf v; request = requestOf w } ≡ getD ps n idle
-    → Filled processIn idle ps (n + 1) 0 32 before (set (set after n v) (16 + n) w)
+    → Filled processIn idle ps (n + 1) 0 LOCATIONS before (set (set after n v) (REQUESTS + n) w)
 fill-process ps n before after v w so below long here =
     let m = set after n v in
-    let m-long : length m ≡ 552 = length-set after n v ∙ long in
-    let others : (j : ℕ) → j ≢ n → j ≢ 16 + n → getD (set m (16 + n) w) j 0 ≡ getD after j 0 =
-    λ j p q. getD-set-other m (16 + n) j w 0 q ∙ getD-set-other after n j v 0 p in
+    let m-long : length m ≡ rosterLength = length-set after n v ∙ long in
+    let others : (j : ℕ) → j ≢ n → j ≢ REQUESTS + n → getD (set m (REQUESTS + n) w) j 0 ≡ getD after j 0 =
+    λ j p q. getD-set-other m (REQUESTS + n) j w 0 q ∙ getD-set-other after n j v 0 p in
     record {
-      long = length-set m (16 + n) w ∙ length-set after n v ∙ so .long;
+      long = length-set m (REQUESTS + n) w ∙ length-set after n v ∙ so .long;
       filled =
           below-more _ _
           (λ k b.
-          rw (others k (λ e. omega arith) (λ e. omega arith), others (16 + k) (λ e. omega arith) (λ e. omega arith))
+          rw (others k (λ e. omega arith) (λ e. omega arith), others (REQUESTS + k) (λ e. omega arith) (λ e. omega arith))
           (so .filled k b))
           (rw (
-            getD-set-same m (16 + n) w 0 (omega arith),
-            getD-set-other m (16 + n) n w 0 (λ e. omega arith),
+            getD-set-same m (REQUESTS + n) w 0 (omega arith),
+            getD-set-other m (REQUESTS + n) n w 0 (λ e. omega arith),
             getD-set-same after n v 0 (omega arith),
           ) here);
       ahead = λ j b. absurd (omega arith);
@@ -75,91 +88,91 @@ fill-process ps n before after v w so below long here =
     }
 
 -- what stands in a row is what stands in the tables
-pub row-at : (ls : List Vmid) (a k : ℕ) → k < 16 → getD (rowOf a ls) k unknown ≡ getD ls (16 * a + k) unknown
-row-at ls a k b = getD-take 16 (drop (16 * a) ls) k unknown b ∙ getD-drop (16 * a) ls k unknown
+pub row-at : (ls : List Vmid) (a k : ℕ) → k < ranks → getD (rowOf a ls) k unknown ≡ getD ls (ranks * a + k) unknown
+row-at ls a k b = getD-take ranks (drop (ranks * a) ls) k unknown b ∙ getD-drop (ranks * a) ls k unknown
 
 -- a row that was copied is the row
-pub row-copied : (ls row : List Vmid) (a : ℕ) → length ls ≡ 256 → a < 16 → length row ≡ 16
-    → Copied (λ k. getD ls (16 * a + k) unknown) unknown 16 row → row ≡ rowOf a ls
+pub row-copied : (ls row : List Vmid) (a : ℕ) → length ls ≡ cells → a < ranks → length row ≡ ranks
+    → Copied (λ k. getD ls (ranks * a + k) unknown) unknown ranks row → row ≡ rowOf a ls
 row-copied ls row a long small full so =
-    ext-getD unknown row (rowOf a ls) (full ∙ sym (length-take-le 16 (drop (16 * a) ls) (omega (arith, length-drop (16 * a) ls))))
-    (λ k b. let below : k < 16 = omega arith in sym (so k below) ∙ sym (row-at ls a k below))
+    ext-getD unknown row (rowOf a ls) (full ∙ sym (length-take-le ranks (drop (ranks * a) ls) (omega (arith, length-drop (ranks * a) ls))))
+    (λ k b. let below : k < ranks = omega arith in sym (so k below) ∙ sym (row-at ls a k below))
 
 -- a row more of the tables is filled
-pub fill-row : (ls : List Vmid) (a : ℕ) (before between after : List ℕ) → Filled locationIn unknown ls (16 * a) 32 288 before between
-    → Filled (rowIn a) unknown (rowOf a ls) 16 (32 + 16 * a) (48 + 16 * a) between after → a < 16
-    → Filled locationIn unknown ls (16 * (a + 1)) 32 288 before after
+pub fill-row : (ls : List Vmid) (a : ℕ) (before between after : List ℕ) → Filled locationIn unknown ls (ranks * a) LOCATIONS LINKS before between
+    → Filled (rowIn a) unknown (rowOf a ls) ranks (LOCATIONS + ranks * a) (LOCATIONS + ranks + ranks * a) between after → a < ranks
+    → Filled locationIn unknown ls (ranks * (a + 1)) LOCATIONS LINKS before after
 fill-row ls a before between after so row small =
     record {
       long = row .long ∙ so .long;
-      filled = λ k b. at k b (ℕ-discrete (k / 16) a);
+      filled = λ k b. at k b (ℕ-discrete (k / ranks) a);
       ahead = λ j b. row .ahead j (omega arith) ∙ so .ahead j b;
       behind = λ j b. row .behind j (omega arith) ∙ so .behind j b;
     }
   where
-    earlier : (k : ℕ) → k < 16 * (a + 1) → k / 16 ≢ a → k < 16 * a
+    earlier : (k : ℕ) → k < ranks * (a + 1) → k / ranks ≢ a → k < ranks * a
     earlier k b c = omega arith
 
-    at : (k : ℕ) → k < 16 * (a + 1) → Dec (k / 16 ≡ a) → locationIn after k ≡ getD ls k unknown
+    at : (k : ℕ) → k < ranks * (a + 1) → Dec (k / ranks ≡ a) → locationIn after k ≡ getD ls k unknown
     at k b (no c) =
-        let below : k < 16 * a = earlier k b c in
-        ap vmidOf (row .ahead (32 + k) (omega arith)) ∙ so .filled k below
+        let below : k < ranks * a = earlier k b c in
+        ap vmidOf (row .ahead (LOCATIONS + k) (omega arith)) ∙ so .filled k below
     at k b (yes c) =
-        let i = k - 16 * a in
-        let here : 32 + 16 * a + i ≡ 32 + k = omega arith in
-        let there : 16 * a + i ≡ k = omega arith in
+        let i = k - ranks * a in
+        let here : LOCATIONS + ranks * a + i ≡ LOCATIONS + k = omega arith in
+        let there : ranks * a + i ≡ k = omega arith in
         (rw (here, row-at ls a i (omega arith), there) at (row .filled i (omega arith)))
 
 -- a whole pass over a column
-module _ (before after : List ℕ) (long : length before ≡ 552) where
-  pub processes-loaded : (ps : List Process) → length ps ≡ 16 → Filled processIn idle ps 16 0 32 before after
+module _ (before after : List ℕ) (long : length before ≡ rosterLength) where
+  pub processes-loaded : (ps : List Process) → length ps ≡ ranks → Filled processIn idle ps ranks 0 LOCATIONS before after
       → Holds after (withProcesses ps (ranksOf before))
   unfolding ranksOf
   processes-loaded ps full so =
-      by-columns after (so .long ∙ long) (tabulate-is 16 (processIn after) ps idle full (so .filled))
+      by-columns after (so .long ∙ long) (tabulate-is ranks (processIn after) ps idle full (so .filled))
       (locations-kept before after (λ j low high. so .behind j (omega arith)))
       (links-kept before after (λ j low high. so .behind j (omega arith)))
       (drawn-kept before after (λ j low high. so .behind j (omega arith)))
 
-  pub locations-loaded : (ls : List Vmid) → length ls ≡ 256 → Filled locationIn unknown ls 256 32 288 before after
+  pub locations-loaded : (ls : List Vmid) → length ls ≡ cells → Filled locationIn unknown ls cells LOCATIONS LINKS before after
       → Holds after (withLocations ls (ranksOf before))
   unfolding ranksOf
   locations-loaded ls full so =
       by-columns after (so .long ∙ long) (processes-kept before after (λ j low high. so .ahead j (omega arith)))
-      (tabulate-is 256 (locationIn after) ls unknown full (so .filled))
+      (tabulate-is cells (locationIn after) ls unknown full (so .filled))
       (links-kept before after (λ j low high. so .behind j (omega arith)))
       (drawn-kept before after (λ j low high. so .behind j (omega arith)))
 
-  pub links-loaded : (ks : List Link) → length ks ≡ 256 → Filled linkIn apart ks 256 288 544 before after
+  pub links-loaded : (ks : List Link) → length ks ≡ cells → Filled linkIn apart ks cells LINKS DRAWN before after
       → Holds after (withLinks ks (ranksOf before))
   unfolding ranksOf
   links-loaded ks full so =
       by-columns after (so .long ∙ long) (processes-kept before after (λ j low high. so .ahead j (omega arith)))
       (locations-kept before after (λ j low high. so .ahead j (omega arith)))
-      (tabulate-is 256 (linkIn after) ks apart full (so .filled))
+      (tabulate-is cells (linkIn after) ks apart full (so .filled))
       (drawn-kept before after (λ j low high. so .behind j (omega arith)))
 
-  pub drawn-loaded : (ns : List ℕ) → length ns ≡ 8 → Filled drawnIn 0 ns 8 544 552 before after
+  pub drawn-loaded : (ns : List ℕ) → length ns ≡ hosts → Filled drawnIn 0 ns hosts DRAWN rosterLength before after
       → Holds after (withAllDrawn ns (ranksOf before))
   unfolding ranksOf
   drawn-loaded ns full so =
       by-columns after (so .long ∙ long) (processes-kept before after (λ j low high. so .ahead j (omega arith)))
       (locations-kept before after (λ j low high. so .ahead j (omega arith)))
       (links-kept before after (λ j low high. so .ahead j (omega arith)))
-      (tabulate-is 8 (drawnIn after) ns 0 full (so .filled))
+      (tabulate-is hosts (drawnIn after) ns 0 full (so .filled))
 
 -- all zeros is the fresh state
-pub cleared : (l : List ℕ) → length l ≡ 552 → Copied (λ k. 0) 0 552 l → Holds l fresh
+pub cleared : (l : List ℕ) → length l ≡ rosterLength → Copied (λ k. 0) 0 rosterLength l → Holds l fresh
 cleared l long so =
-    let zero : (k : ℕ) → k < 552 → getD l k 0 ≡ 0 = λ k b. sym (so k b) in
+    let zero : (k : ℕ) → k < rosterLength → getD l k 0 ≡ 0 = λ k b. sym (so k b) in
     by-columns l long
-    (tabulate-is 16 (processIn l) (replicate 16 idle) idle (length-replicate 16 idle)
+    (tabulate-is ranks (processIn l) (replicate ranks idle) idle (length-replicate ranks idle)
     (λ k b.
-    rw (zero k (omega arith), zero (16 + k) (omega arith), status-zero, request-zero)
-    (sym (getD-replicate 16 k idle idle b))))
-    (tabulate-is 256 (locationIn l) (replicate 256 unknown) unknown (length-replicate 256 unknown)
-    (λ k b. rw (zero (32 + k) (omega arith)) (sym (getD-replicate 256 k unknown unknown b))))
-    (tabulate-is 256 (linkIn l) (replicate 256 apart) apart (length-replicate 256 apart)
-    (λ k b. rw (zero (288 + k) (omega arith), link-zero) (sym (getD-replicate 256 k apart apart b))))
-    (tabulate-is 8 (drawnIn l) (replicate 8 0) 0 (length-replicate {A = ℕ} 8 0)
-    (λ k b. rw (zero (544 + k) (omega arith)) (sym (getD-replicate {A = ℕ} 8 k 0 0 b))))
+    rw (zero k (omega arith), zero (REQUESTS + k) (omega arith), status-zero, request-zero)
+    (sym (getD-replicate ranks k idle idle b))))
+    (tabulate-is cells (locationIn l) (replicate cells unknown) unknown (length-replicate cells unknown)
+    (λ k b. rw (zero (LOCATIONS + k) (omega arith)) (sym (getD-replicate cells k unknown unknown b))))
+    (tabulate-is cells (linkIn l) (replicate cells apart) apart (length-replicate cells apart)
+    (λ k b. rw (zero (LINKS + k) (omega arith), link-zero) (sym (getD-replicate cells k apart apart b))))
+    (tabulate-is hosts (drawnIn l) (replicate hosts 0) 0 (length-replicate {A = ℕ} 8 0)
+    (λ k b. rw (zero (DRAWN + k) (omega arith)) (sym (getD-replicate {A = ℕ} hosts k 0 0 b))))

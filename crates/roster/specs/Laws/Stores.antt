@@ -22,74 +22,88 @@ use Rattle.roster.specs.Laws.Columns.{
   drawn-kept,
 }
 use Rattle.base.specs.Laws.Tabulate.{tabulate-set-past}
+use Rattle.broker.specs.Names.{hosts}
+use Rattle.transit.specs.Message.{ranks, cells}
 use Rattle.roster.specs.Numbers.{vmidOf, statusOf, requestOf, linkOf, drawnOf}
-use Rattle.roster.specs.Roster.{processIn, locationIn, linkIn, drawnIn, ranksOf, Holds}
+use Rattle.roster.specs.Roster.{
+  processIn,
+  locationIn,
+  linkIn,
+  drawnIn,
+  ranksOf,
+  Holds,
+  REQUESTS,
+  LOCATIONS,
+  LINKS,
+  DRAWN,
+  rosterLength,
+}
 
-module _ (l : List ℕ) (long : length l ≡ 552) where
-  pub standing-stored : (r : Rank) (w : ℕ) → r .0 < 16 → Holds (set l (r .0) w) (withStatus r (statusOf w) (ranksOf l))
+module _ (l : List ℕ) (long : length l ≡ rosterLength) where
+  pub standing-stored : (r : Rank) (w : ℕ) → r .0 < ranks → Holds (set l (r .0) w) (withStatus r (statusOf w) (ranksOf l))
   unfolding ranksOf
   standing-stored r w b =
       let i = r .0 in
       let m = set l i w in
       by-columns m (length-set l i w ∙ long) (standing-set l i w b (omega arith))
-      (locations-kept l m (agree-behind l i w 32 288 (omega arith)))
-      (links-kept l m (agree-behind l i w 288 544 (omega arith)))
-      (drawn-kept l m (agree-behind l i w 544 552 (omega arith)))
+      (locations-kept l m (agree-behind l i w LOCATIONS LINKS (omega arith)))
+      (links-kept l m (agree-behind l i w LINKS DRAWN (omega arith)))
+      (drawn-kept l m (agree-behind l i w DRAWN rosterLength (omega arith)))
 
-  pub request-stored : (r : Rank) (w : ℕ) → r .0 < 16 → Holds (set l (16 + r .0) w) (withRequest r (requestOf w) (ranksOf l))
+  pub request-stored : (r : Rank) (w : ℕ) → r .0 < ranks → Holds (set l (REQUESTS + r .0) w) (withRequest r (requestOf w) (ranksOf l))
   unfolding ranksOf
   request-stored r w b =
-      let i = 16 + r .0 in
+      let i = REQUESTS + r .0 in
       let m = set l i w in
       by-columns m (length-set l i w ∙ long) (request-set l (r .0) w b (omega arith))
-      (locations-kept l m (agree-behind l i w 32 288 (omega arith)))
-      (links-kept l m (agree-behind l i w 288 544 (omega arith)))
-      (drawn-kept l m (agree-behind l i w 544 552 (omega arith)))
+      (locations-kept l m (agree-behind l i w LOCATIONS LINKS (omega arith)))
+      (links-kept l m (agree-behind l i w LINKS DRAWN (omega arith)))
+      (drawn-kept l m (agree-behind l i w DRAWN rosterLength (omega arith)))
 
-  pub location-stored : (k w : ℕ) → k < 256
-      → Holds (set l (32 + k) w) (withLocations (set (ranksOf l .locations) k (vmidOf w)) (ranksOf l))
+  pub location-stored : (k w : ℕ) → k < cells
+      → Holds (set l (LOCATIONS + k) w) (withLocations (set (ranksOf l .locations) k (vmidOf w)) (ranksOf l))
   unfolding ranksOf
   location-stored k w b =
-      let i = 32 + k in
+      let i = LOCATIONS + k in
       let m = set l i w in
-      by-columns m (length-set l i w ∙ long) (processes-kept l m (agree-ahead l i w 0 32 (omega arith)))
-      (column-set vmidOf 32 256 l k w b (omega arith))
-      (links-kept l m (agree-behind l i w 288 544 (omega arith)))
-      (drawn-kept l m (agree-behind l i w 544 552 (omega arith)))
+      by-columns m (length-set l i w ∙ long) (processes-kept l m (agree-ahead l i w 0 LOCATIONS (omega arith)))
+      (column-set vmidOf LOCATIONS cells l k w b (omega arith))
+      (links-kept l m (agree-behind l i w LINKS DRAWN (omega arith)))
+      (drawn-kept l m (agree-behind l i w DRAWN rosterLength (omega arith)))
 
-  pub link-stored : (k w : ℕ) → k < 256 → Holds (set l (288 + k) w) (withLinks (set (ranksOf l .links) k (linkOf w)) (ranksOf l))
+  pub link-stored : (k w : ℕ) → k < cells → Holds (set l (LINKS + k) w) (withLinks (set (ranksOf l .links) k (linkOf w)) (ranksOf l))
   unfolding ranksOf
   link-stored k w b =
-      let i = 288 + k in
+      let i = LINKS + k in
       let m = set l i w in
-      by-columns m (length-set l i w ∙ long) (processes-kept l m (agree-ahead l i w 0 32 (omega arith)))
-      (locations-kept l m (agree-ahead l i w 32 288 (omega arith)))
-      (column-set linkOf 288 256 l k w b (omega arith))
-      (drawn-kept l m (agree-behind l i w 544 552 (omega arith)))
+      by-columns m (length-set l i w ∙ long) (processes-kept l m (agree-ahead l i w 0 LOCATIONS (omega arith)))
+      (locations-kept l m (agree-ahead l i w LOCATIONS LINKS (omega arith)))
+      (column-set linkOf LINKS cells l k w b (omega arith))
+      (drawn-kept l m (agree-behind l i w DRAWN rosterLength (omega arith)))
 
-  pub drawn-stored : (h w : ℕ) → h < 8 → Holds (set l (544 + h) w) (withDrawn h (drawnOf w) (ranksOf l))
+  pub drawn-stored : (h w : ℕ) → h < hosts → Holds (set l (DRAWN + h) w) (withDrawn h (drawnOf w) (ranksOf l))
   unfolding ranksOf
   drawn-stored h w b =
-      let i = 544 + h in
+      let i = DRAWN + h in
       let m = set l i w in
-      by-columns m (length-set l i w ∙ long) (processes-kept l m (agree-ahead l i w 0 32 (omega arith)))
-      (locations-kept l m (agree-ahead l i w 32 288 (omega arith)))
-      (links-kept l m (agree-ahead l i w 288 544 (omega arith)))
-      (column-set drawnOf 544 8 l h w b (omega arith))
+      by-columns m (length-set l i w ∙ long) (processes-kept l m (agree-ahead l i w 0 LOCATIONS (omega arith)))
+      (locations-kept l m (agree-ahead l i w LOCATIONS LINKS (omega arith)))
+      (links-kept l m (agree-ahead l i w LINKS DRAWN (omega arith)))
+      (column-set drawnOf DRAWN hosts l h w b (omega arith))
 
   -- a store past the end of a column changes nothing
-  pub process-past-end : (r : Rank) (p : Process) → 16 ≤ r .0 → Holds l (withProcess r p (ranksOf l))
+  pub process-past-end : (r : Rank) (p : Process) → ranks ≤ r .0 → Holds l (withProcess r p (ranksOf l))
   unfolding ranksOf
-  process-past-end r p b = by-columns l long (sym (tabulate-set-past 16 (processIn l) (r .0) p b)) refl refl refl
+  process-past-end r p b = by-columns l long (sym (tabulate-set-past ranks (processIn l) (r .0) p b)) refl refl refl
 
-  pub location-past-end : (k : ℕ) (v : Vmid) → 256 ≤ k → Holds l (withLocations (set (ranksOf l .locations) k v) (ranksOf l))
+  pub location-past-end : (k : ℕ) (v : Vmid) → cells ≤ k → Holds l (withLocations (set (ranksOf l .locations) k v) (ranksOf l))
   unfolding ranksOf
-  location-past-end k v b = by-columns l long refl (sym (tabulate-set-past 256 (locationIn l) k v b)) refl refl
+  location-past-end k v b = by-columns l long refl (sym (tabulate-set-past cells (locationIn l) k v b)) refl refl
 
-  pub link-past-end : (k : ℕ) (x : Link) → 256 ≤ k → Holds l (withLinks (set (ranksOf l .links) k x) (ranksOf l))
+  pub link-past-end : (k : ℕ) (x : Link) → cells ≤ k → Holds l (withLinks (set (ranksOf l .links) k x) (ranksOf l))
   unfolding ranksOf
-  link-past-end k x b = by-columns l long refl refl (sym (tabulate-set-past 256 (linkIn l) k x b)) refl
+  link-past-end k x b = by-columns l long refl refl (sym (tabulate-set-past cells (linkIn l) k x b)) refl
 
-  pub drawn-past-end : (h n : ℕ) → 8 ≤ h → Holds l (withDrawn h n (ranksOf l))
+  pub drawn-past-end : (h n : ℕ) → hosts ≤ h → Holds l (withDrawn h n (ranksOf l))
   unfolding ranksOf
-  drawn-past-end h n b = by-columns l long refl refl refl (sym (tabulate-set-past 8 (drawnIn l) h n b))
+  drawn-past-end h n b = by-columns l long refl refl refl (sym (tabulate-set-past hosts (drawnIn l) h n b))

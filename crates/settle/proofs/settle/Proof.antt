@@ -12,12 +12,6 @@ use Rattle.settle.proofs.settle.Tie as tie
 abbrev desk : tie.Start → State
 desk c = deskOf (c .args .slots .now) (c .args .contents .now) (c .args .roster .now)
 
-judge-requires : tie.Need-judge-requires
-judge-requires c κs = search needs
-
-enum-known-verdict : tie.Need-enum-known-verdict
-enum-known-verdict c = search needs
-
 enum-told : tie.Need-enum-told
 enum-told c = search needs
 
@@ -56,5 +50,4 @@ returns-2 c =
 
 pub settle-spec : {M : Type 1} → statement M
 settle-spec =
-    tie.close
-    (tie.spec judge-requires enum-known-verdict enum-told apply-requires returns returns-2)
+    tie.close (tie.spec (search needs) (search needs) enum-told apply-requires returns returns-2)

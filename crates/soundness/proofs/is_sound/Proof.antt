@@ -22,17 +22,11 @@ by-parts start = sound-by-parts (state start) (typed (start .args .broker) _ (st
 ranks-passed : (c : tie.Else1) → byRanks (state (c .before .before .before .before .before)) ≡ true
 ranks-passed c = sym (c .before .ranks-sound .ensures) ∙ not-false _ (c .if1 .left)
 
-ranks-sound-requires : tie.Need-ranks-sound-requires
-ranks-sound-requires c κs = search needs
-
 returns : tie.Need-returns
 returns c =
     let start = c .before .before .before .before .before in
     let fails = sym (c .before .ranks-sound .ensures) ∙ not-true _ (c .if1 .taken) in
     rw (by-parts start, fails)
-
-pairs-sound-requires : tie.Need-pairs-sound-requires
-pairs-sound-requires c κs = search needs
 
 returns-2 : tie.Need-returns-2
 returns-2 c =
@@ -40,9 +34,6 @@ returns-2 c =
     let ranks = ranks-passed (c .before .before .before) in
     let fails = sym (c .before .pairs-sound .ensures) ∙ not-true _ (c .if2 .taken) in
     rw (by-parts start, ranks, fails)
-
-messages-sound-requires : tie.Need-messages-sound-requires
-messages-sound-requires c κs = search needs
 
 returns-3 : tie.Need-returns-3
 returns-3 c =
@@ -53,11 +44,4 @@ returns-3 c =
 
 pub is-sound-spec : {M : Type 1} → statement M
 is-sound-spec =
-    tie.close
-    (tie.spec
-    ranks-sound-requires
-    returns
-    pairs-sound-requires
-    returns-2
-    messages-sound-requires
-    returns-3)
+    tie.close (tie.spec (search needs) returns (search needs) returns-2 (search needs) returns-3)

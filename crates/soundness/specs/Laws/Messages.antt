@@ -11,7 +11,7 @@ use lib.Dec.{eqb}
 use Rattle.base.specs.Laws.Lists.{every-both}
 use Rattle.base.specs.Laws.Tests.{both, both-left, both-right}
 use Rattle.base.specs.Lists.{select, every}
-use Rattle.transit.specs.Message.{between, number, isRank}
+use Rattle.transit.specs.Message.{between, number, isRank, ranks, cells}
 use Rattle.transit.specs.declared.Message.{Message}
 use Rattle.transit.specs.declared.Rank.{Rank}
 use Rattle.broker.specs.Laws.Sound.{isNamed}
@@ -32,29 +32,29 @@ pub every-and : {A : Type 0} (p q : A → Bool) (l : List A) → every p l ≡ t
 every-and p q l ps qs = every-both p q (λ x. p x && q x) (λ x h k. both h k) l ps qs
 
 -- The sender of a message with names in range is a rank.
-pub sender-inside : (m : Message) → isNamed m ≡ true → m .sender .0 < 16
+pub sender-inside : (m : Message) → isNamed m ≡ true → m .sender .0 < ranks
 sender-inside m h =
-    let ranks = both-left (isRank (m .sender) && isRank (m .receiver)) _ h in
-    ltb-true _ _ (both-left (isRank (m .sender)) _ ranks)
+    let named-both = both-left (isRank (m .sender) && isRank (m .receiver)) _ h in
+    ltb-true _ _ (both-left (isRank (m .sender)) _ named-both)
 
 -- So is the receiver.
-pub receiver-inside : (m : Message) → isNamed m ≡ true → m .receiver .0 < 16
+pub receiver-inside : (m : Message) → isNamed m ≡ true → m .receiver .0 < ranks
 receiver-inside m h =
-    let ranks = both-left (isRank (m .sender) && isRank (m .receiver)) _ h in
-    ltb-true _ _ (both-right (isRank (m .sender)) _ ranks)
+    let named-both = both-left (isRank (m .sender) && isRank (m .receiver)) _ h in
+    ltb-true _ _ (both-right (isRank (m .sender)) _ named-both)
 
 -- And its pair has a cell.
-pub pair-inside : (m : Message) → isNamed m ≡ true → pairOf m < 256
+pub pair-inside : (m : Message) → isNamed m ≡ true → pairOf m < cells
 pair-inside m h = cell-below (m .sender) (m .receiver) (sender-inside m h) (receiver-inside m h)
 
 -- The messages of a pair are those of its cell.
-pub pair-is-cell : (a b : Rank) → b .0 < 16 → (l : List Message) → every isNamed l ≡ true → select (λ m. eqb (pairOf m) (cell a b)) l ≡ select (between a b) l
+pub pair-is-cell : (a b : Rank) → b .0 < ranks → (l : List Message) → every isNamed l ≡ true → select (λ m. eqb (pairOf m) (cell a b)) l ≡ select (between a b) l
 pair-is-cell a b hb l named =
     select-agree isNamed (λ m. eqb (pairOf m) (cell a b)) (between a b)
     (λ m h. cell-same (m .sender) (m .receiver) a b (receiver-inside m h) hb) l named
 
 -- A message that passes has a cell for its pair.
-pub has-cell : (ps : List Process) (ls : List Link) (m : Message) → messageSoundAt ps ls m ≡ true → pairOf m < 256
+pub has-cell : (ps : List Process) (ls : List Link) (m : Message) → messageSoundAt ps ls m ≡ true → pairOf m < cells
 has-cell ps ls m h = pair-inside m (both-left (isNamed m) _ h)
 
 -- Messages of one pair at one place fit alike.

@@ -11,7 +11,7 @@ use lib.ListN.{length, replicate}
 use Rattle.base.specs.Laws.Tests.{both, both-left, both-right, AllTrue, parts, chained, same-truth}
 use Rattle.base.specs.Lists.{neverFalls}
 use Rattle.base.specs.Laws.Lists.{every-wider}
-use Rattle.transit.specs.Message.{number, rank}
+use Rattle.transit.specs.Message.{number, rank, cells}
 use Rattle.transit.specs.Unread.{limit}
 use Rattle.transit.specs.declared.Message.{Message}
 use Rattle.transit.specs.declared.Rank.{Rank}
@@ -103,10 +103,10 @@ module _ (s : State) where
       chained (pairClause a b) (pairClauses a b) (f .names .tables-drawn a b h k)
       (f .names .vmids-apart a b h k, (connection-passes f a b h k, (backlog, (f .pairs .calls-fit a b h k, tt)))))
 
-  cells-rise : Mail s → (k : ℕ) → k < 256 → neverFalls (numbersIn pairOf number k (messages s)) ≡ true
+  cells-rise : Mail s → (k : ℕ) → k < cells → neverFalls (numbersIn pairOf number k (messages s)) ≡ true
   cells-rise f k h =
-      let a = rank (k / 16) in
-      let b = rank (k % 16) in
+      let a = rank (k / ranks) in
+      let b = rank (k % ranks) in
       let same = rw (cell-of k) at (pair-is-cell a b (omega arith) (messages s) (f .named)) in
       ap (λ (l : List Message). neverFalls (map number l)) same ∙ f .places-rise a b (omega arith) (omega arith)
 
@@ -116,19 +116,19 @@ module _ (s : State) where
       let l = messages s in
       let places = every-and (fitsUnheeded s) (fitsPlace s) l (f .unheeded-places) (f .places-fit) in
       let all = every-and isNamed _ l (f .named) (every-and (hasEnds s) _ l (f .ends-fit) places) in
-      both (le-leb _ _ (f .few)) (rises-of messageTest pairOf number 256 (has-cell (s .processes) (s .links)) l all (cells-rise f))
+      both (le-leb _ _ (f .few)) (rises-of messageTest pairOf number cells (has-cell (s .processes) (s .links)) l all (cells-rise f))
 
   -- From the tests to soundness.
 
-  rank-holds : byRanks s ≡ true → (r : Rank) → r .0 < 16 → (rankClause r ≡ true) × AllTrue (rankClauses r)
+  rank-holds : byRanks s ≡ true → (r : Rank) → r .0 < ranks → (rankClause r ≡ true) × AllTrue (rankClauses r)
   unfolding ranksSound
   rank-holds ranks r h = parts (rankClause r) (rankClauses r) (everyRank-at _ ranks r h)
 
-  pair-holds : byPairs s ≡ true → (a b : Rank) → a .0 < 16 → b .0 < 16 → (pairClause a b ≡ true) × AllTrue (pairClauses a b)
+  pair-holds : byPairs s ≡ true → (a b : Rank) → a .0 < ranks → b .0 < ranks → (pairClause a b ≡ true) × AllTrue (pairClauses a b)
   unfolding pairsSound
   pair-holds pairs a b h k = parts (pairClause a b) (pairClauses a b) (everyPair-at _ pairs a b h k)
 
-  connection-holds : byPairs s ≡ true → (a b : Rank) → a .0 < 16 → b .0 < 16
+  connection-holds : byPairs s ≡ true → (a b : Rank) → a .0 < ranks → b .0 < ranks
       → (connectionClause a b ≡ true) × AllTrue (connectionClauses a b)
   connection-holds pairs a b h k =
       parts (connectionClause a b) (connectionClauses a b) (pair-holds pairs a b h k .1 .1 .0)
@@ -167,8 +167,8 @@ module _ (s : State) where
       let l = messages s in
       let few = leb-true (s .unread .count) limit (both-left (leb (s .unread .count) limit) _ passes) in
       let pass = both-right (leb (s .unread .count) limit) _ passes in
-      let all = rises-fits messageTest pairOf number (replicate 256 0) l pass in
-      let rising = rises-sorted messageTest pairOf number 256 (has-cell (s .processes) (s .links)) l pass in
+      let all = rises-fits messageTest pairOf number (replicate cells 0) l pass in
+      let rising = rises-sorted messageTest pairOf number cells (has-cell (s .processes) (s .links)) l pass in
       let named = every-wider messageTest isNamed (λ m h. both-left (isNamed m) _ h) l all in
       record {
         few = few;

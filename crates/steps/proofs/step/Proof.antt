@@ -12,9 +12,6 @@ use Rattle.steps.specs.Outcome.{replied}
 use Rattle.steps.proofs.step.Statement.{statement}
 use Rattle.steps.proofs.step.Tie as tie
 
-load-requires : tie.Need-load-requires
-load-requires c κs = search needs
-
 returns : tie.Need-returns
 returns c =
     let loaded = c .before in
@@ -29,12 +26,6 @@ step-in-place-requires c κs =
 
 enum-told : tie.Need-enum-told
 enum-told c = search needs
-
-enum-told-2 : tie.Need-enum-told-2
-enum-told-2 c = search needs
-
-unload-requires : tie.Need-unload-requires
-unload-requires c κs = search needs
 
 returns-2 : tie.Need-returns-2
 returns-2 c =
@@ -66,13 +57,5 @@ returns-3 c =
 
 pub step-spec : {M : Type 1} → statement M
 step-spec =
-    tie.close
-    (tie.spec
-    load-requires
-    returns
-    step-in-place-requires
-    enum-told
-    enum-told-2
-    unload-requires
-    returns-2
+    tie.close (tie.spec (search needs) returns step-in-place-requires enum-told (search needs) (search needs) returns-2
     returns-3)

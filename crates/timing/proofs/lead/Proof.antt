@@ -12,33 +12,7 @@ Inv-loop log slots₀ contents₀ roster₀ at₀ slots contents roster at = Des
 abbrev μ-loop : tie.MeasureT-loop
 μ-loop log slots₀ contents₀ roster₀ at₀ slots contents roster at = length log - at
 
-loop-holds : tie.Need-loop-holds Inv-loop μ-loop
-loop-holds c = search needs
-
-step-in-place-requires : tie.Need-step-in-place-requires Inv-loop μ-loop
-step-in-place-requires c κs = search needs
-
-returns : tie.Need-returns Inv-loop μ-loop
-returns c = search needs
-
-loop-less : tie.Need-loop-less Inv-loop μ-loop
-loop-less c = search needs
-
-loop-again : tie.Need-loop-again Inv-loop μ-loop
-loop-again c = search needs
-
-returns-2 : tie.Need-returns-2 Inv-loop μ-loop
-returns-2 c = search needs
-
 pub lead-spec : {M : Type 1} → statement M
 lead-spec =
-    tie.close
-    (tie.spec
-    Inv-loop
-    μ-loop
-    loop-holds
-    step-in-place-requires
-    returns
-    loop-less
-    loop-again
-    returns-2)
+    tie.close (tie.spec Inv-loop μ-loop (search needs) (search needs) (search needs) (search needs) (search needs)
+    (search needs))

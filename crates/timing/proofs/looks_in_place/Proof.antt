@@ -12,41 +12,7 @@ Inv-loop times slots₀ contents₀ roster₀ look sum₀ turn₀ slots contents
 abbrev μ-loop : tie.MeasureT-loop
 μ-loop times slots₀ contents₀ roster₀ look sum₀ turn₀ slots contents roster sum turn = times - turn
 
-loop-holds : tie.Need-loop-holds Inv-loop μ-loop
-loop-holds c = search needs
-
-step-in-place-requires : tie.Need-step-in-place-requires Inv-loop μ-loop
-step-in-place-requires c κs = search needs
-
-told-requires : tie.Need-told-requires Inv-loop μ-loop
-told-requires c κs = search needs
-
-wrapping-add-u64-requires : tie.Need-wrapping-add-u64-requires Inv-loop μ-loop
-wrapping-add-u64-requires c κs = search needs
-
-add-turn : tie.Need-add-turn Inv-loop μ-loop
-add-turn c = search needs
-
-loop-less : tie.Need-loop-less Inv-loop μ-loop
-loop-less c = search needs
-
-loop-again : tie.Need-loop-again Inv-loop μ-loop
-loop-again c = search needs
-
-returns : tie.Need-returns Inv-loop μ-loop
-returns c = search needs
-
 pub looks-in-place-spec : {M : Type 1} → statement M
 looks-in-place-spec =
-    tie.close
-    (tie.spec
-    Inv-loop
-    μ-loop
-    loop-holds
-    step-in-place-requires
-    told-requires
-    wrapping-add-u64-requires
-    add-turn
-    loop-less
-    loop-again
-    returns)
+    tie.close (tie.spec Inv-loop μ-loop (search needs) (search needs) (search needs) (search needs) (search needs)
+    (search needs) (search needs) (search needs))

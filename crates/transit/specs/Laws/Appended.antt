@@ -22,10 +22,12 @@ use Rattle.transit.specs.Columns.{
   COUNT,
   TAIL,
   UNREAD,
+  SLOTS,
+  slotsLength,
 }
 use Rattle.base.specs.Lists.{tally}
 use Rattle.transit.specs.Mail.{messagesIn, Mail, Appended}
-use Rattle.transit.specs.Message.{between, placeNumber}
+use Rattle.transit.specs.Message.{between, placeNumber, ranks, cells}
 use Rattle.transit.specs.Slots.{pairOf}
 use Rattle.transit.specs.Unread.{limit}
 use Rattle.transit.specs.declared.Message.{Message}
@@ -56,10 +58,10 @@ use Rattle.base.specs.Laws.Tests.{both}
 -- a message can be put at the tail: p is the number of its pair, n that of its place
 pub record Room (s v : List ℕ) (m : Message) (p n : ℕ) : Type 0 where
   pub mail : Mail s v
-  pub room : columnsOf s .tail < 2048
+  pub room : columnsOf s .tail < SLOTS
   pub few : length (messagesIn s v) < limit
-  pub from : m .sender .0 < 16
-  pub to : m .receiver .0 < 16
+  pub from : m .sender .0 < ranks
+  pub to : m .receiver .0 < ranks
   pub of-pair : p ≡ pairOf (m .sender) (m .receiver)
   pub at-place : n ≡ placeNumber (m .place)
 
@@ -67,7 +69,7 @@ pub record Room (s v : List ℕ) (m : Message) (p n : ℕ) : Type 0 where
 abbrev pub begun : List ℕ → ℕ → ℕ → List ℕ
 begun s p n =
     let t = getD s TAIL 0 in
-    set (set (set s t p) (PLACES + t) n) (NEXT + t) 2048
+    set (set (set s t p) (PLACES + t) n) (NEXT + t) SLOTS
 
 -- the slots after the stores of the pair's last slot and count, of the tail and of the number of unread
 abbrev pub ended : List ℕ → List ℕ → ℕ → List ℕ
@@ -79,22 +81,22 @@ ended s x p =
 pub record Branched (s : List ℕ) (p n : ℕ) (x : List ℕ) : Type 0 where
   pub next : List ℕ
   pub first : List ℕ
-  pub long : length x ≡ 6914
+  pub long : length x ≡ slotsLength
   pub joined : Joined (columnsOf s) p next first
   pub columns : let c = columnsOf s in
       columnsOf x ≡ withFirst (withNext (withPlaces (withPairs c (set (c .pairs) (c .tail) p)) (set (c .places) (c .tail) n)) next) first
 
 module _ {s v : List ℕ} {m : Message} {p n : ℕ} (r : Room s v m p n) where
   -- Its pair has a pair's number.
-  small : p < 256
+  small : p < cells
   small = omega (arith, r .of-pair, pair-small (m .sender) (m .receiver) (r .from) (r .to))
 
   -- The tail is a slot.
-  pub tail-inside : getD s TAIL 0 < 2048
+  pub tail-inside : getD s TAIL 0 < SLOTS
   tail-inside = omega (arith, tail-is s, r .room)
 
   -- A pair has few messages, and few are unread in all.
-  pub counts-few : (getD s (COUNT + p) 0 ≤ 2048) × (getD s UNREAD 0 < 1024)
+  pub counts-few : (getD s (COUNT + p) 0 ≤ SLOTS) × (getD s UNREAD 0 < 1024)
   counts-few =
       let d = r .mail in (
         omega (arith, count-at s p small, count-bounded (d .index) (column-sizes s (d .slots-long)) p small),
@@ -104,33 +106,33 @@ module _ {s v : List ℕ} {m : Message} {p n : ℕ} (r : Room s v m p n) where
   -- The columns after the first stores.
   begun-columns : let c = columnsOf s in
       columnsOf (begun s p n)
-      ≡ withNext (withPlaces (withPairs c (set (c .pairs) (c .tail) p)) (set (c .places) (c .tail) n)) (set (c .next) (c .tail) 2048)
+      ≡ withNext (withPlaces (withPairs c (set (c .pairs) (c .tail) p)) (set (c .places) (c .tail) n)) (set (c .next) (c .tail) SLOTS)
   begun-columns =
       let t = getD s TAIL 0 in
       rw (
-        store-next (set (set s t p) (PLACES + t) n) t 2048 tail-inside,
+        store-next (set (set s t p) (PLACES + t) n) t SLOTS tail-inside,
         store-place (set s t p) t n tail-inside,
         store-pair s t p tail-inside,
         tail-is s,
       )
 
   -- The pair had none: the slot is its first.
-  pub begins : getD s (FIRST + p) 0 ≡ 2048 → Branched s p n (set (begun s p n) (FIRST + p) (getD s TAIL 0))
+  pub begins : getD s (FIRST + p) 0 ≡ SLOTS → Branched s p n (set (begun s p n) (FIRST + p) (getD s TAIL 0))
   begins none =
       let c = columnsOf s in
       let d = r .mail in
       let z = column-sizes s (d .slots-long) in
       record {
-        next = set (c .next) (c .tail) 2048;
+        next = set (c .next) (c .tail) SLOTS;
         first = set (c .first) p (c .tail);
         long = simp length-set (d .slots-long);
         joined = joined-first (d .index) z p small (r .room) (first-at s p small ∙ none);
         columns = rw (store-first (begun s p n) p (getD s TAIL 0) small, begun-columns, tail-is s);
       }
 
-  module _ (some : getD s (FIRST + p) 0 ≢ 2048) where
+  module _ (some : getD s (FIRST + p) 0 ≢ SLOTS) where
     -- The last slot of a pair that has some is one.
-    pub before-inside : getD s (LAST + p) 0 < 2048
+    pub before-inside : getD s (LAST + p) 0 < SLOTS
     before-inside =
         let d = r .mail in
         let z = column-sizes s (d .slots-long) in
@@ -144,7 +146,7 @@ module _ {s v : List ℕ} {m : Message} {p n : ℕ} (r : Room s v m p n) where
         let d = r .mail in
         let z = column-sizes s (d .slots-long) in
         record {
-          next = set (set (c .next) (c .tail) 2048) (getD (c .last) p 0) (c .tail);
+          next = set (set (c .next) (c .tail) SLOTS) (getD (c .last) p 0) (c .tail);
           first = c .first;
           long = simp length-set (d .slots-long);
           joined = joined-behind (d .index) z p small (r .room) (λ e. some (sym (first-at s p small) ∙ e));

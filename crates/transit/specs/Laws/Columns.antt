@@ -27,8 +27,11 @@ use Rattle.transit.specs.Columns.{
   COUNT,
   TAIL,
   UNREAD,
+  SLOTS,
+  slotsLength,
 }
 use Rattle.transit.specs.Index.{Sizes}
+use Rattle.transit.specs.Message.{cells}
 
 -- how long all parts are
 abbrev sum : List ℕ → ℕ
@@ -77,7 +80,7 @@ parts-long (n ∷ ns) l zero inside long = length-take-le n l (omega arith)
 parts-long (n ∷ ns) l (suc k) inside long = parts-long ns (drop n l) k (omega arith) (omega (arith, length-drop n l))
 
 -- The columns of an array of the right length have theirs.
-pub column-sizes : (s : List ℕ) → length s ≡ 6914 → Sizes (columnsOf s)
+pub column-sizes : (s : List ℕ) → length s ≡ slotsLength → Sizes (columnsOf s)
 unfolding columnsOf
 column-sizes s long = record {
   pairs-long = parts-long sizes s 0 (omega arith) (omega arith);
@@ -104,32 +107,32 @@ module _ (s : List ℕ) (i v : ℕ) where
       (getD-set-other s (offset sizes k + i) TAIL v 0 (λ e. omega (arith, e)))
       (getD-set-other s (offset sizes k + i) UNREAD v 0 (λ e. omega (arith, e)))
 
-  pub store-pair : i < 2048 → columnsOf (set s i v) ≡ withPairs (columnsOf s) (set (columnsOf s .pairs) i v)
+  pub store-pair : i < SLOTS → columnsOf (set s i v) ≡ withPairs (columnsOf s) (set (columnsOf s .pairs) i v)
   unfolding columnsOf
   store-pair inside = let z : 0 + i ≡ i = omega arith in rw z at (store-in 0 inside (omega arith))
 
-  pub store-place : i < 2048 → columnsOf (set s (PLACES + i) v) ≡ withPlaces (columnsOf s) (set (columnsOf s .places) i v)
+  pub store-place : i < SLOTS → columnsOf (set s (PLACES + i) v) ≡ withPlaces (columnsOf s) (set (columnsOf s .places) i v)
   unfolding columnsOf
   store-place inside = store-in 1 inside (omega arith)
 
-  pub store-next : i < 2048 → columnsOf (set s (NEXT + i) v) ≡ withNext (columnsOf s) (set (columnsOf s .next) i v)
+  pub store-next : i < SLOTS → columnsOf (set s (NEXT + i) v) ≡ withNext (columnsOf s) (set (columnsOf s .next) i v)
   unfolding columnsOf
   store-next inside = store-in 2 inside (omega arith)
 
-  pub store-first : i < 256 → columnsOf (set s (FIRST + i) v) ≡ withFirst (columnsOf s) (set (columnsOf s .first) i v)
+  pub store-first : i < cells → columnsOf (set s (FIRST + i) v) ≡ withFirst (columnsOf s) (set (columnsOf s .first) i v)
   unfolding columnsOf
   store-first inside = store-in 3 inside (omega arith)
 
-  pub store-last : i < 256 → columnsOf (set s (LAST + i) v) ≡ withLast (columnsOf s) (set (columnsOf s .last) i v)
+  pub store-last : i < cells → columnsOf (set s (LAST + i) v) ≡ withLast (columnsOf s) (set (columnsOf s .last) i v)
   unfolding columnsOf
   store-last inside = store-in 4 inside (omega arith)
 
-  pub store-count : i < 256 → columnsOf (set s (COUNT + i) v) ≡ withCount (columnsOf s) (set (columnsOf s .count) i v)
+  pub store-count : i < cells → columnsOf (set s (COUNT + i) v) ≡ withCount (columnsOf s) (set (columnsOf s .count) i v)
   unfolding columnsOf
   store-count inside = store-in 5 inside (omega arith)
 
 -- A store of the tail, or of the number of unread, changes that alone.
-module _ (s : List ℕ) (v : ℕ) (long : length s ≡ 6914) where
+module _ (s : List ℕ) (v : ℕ) (long : length s ≡ slotsLength) where
   pub store-tail : columnsOf (set s TAIL v) ≡ withTail (columnsOf s) v
   unfolding columnsOf
   store-tail =
@@ -148,27 +151,27 @@ module _ (s : List ℕ) (v : ℕ) (long : length s ≡ 6914) where
 
 -- A read of each column is a read of the array.
 module _ (s : List ℕ) where
-  pub pair-at : (i : ℕ) → i < 2048 → getD (columnsOf s .pairs) i 0 ≡ getD s i 0
+  pub pair-at : (i : ℕ) → i < SLOTS → getD (columnsOf s .pairs) i 0 ≡ getD s i 0
   unfolding columnsOf
   pair-at i inside = let z : 0 + i ≡ i = omega arith in rw z at (parts-at sizes s 0 i inside)
 
-  pub place-at : (i : ℕ) → i < 2048 → getD (columnsOf s .places) i 0 ≡ getD s (PLACES + i) 0
+  pub place-at : (i : ℕ) → i < SLOTS → getD (columnsOf s .places) i 0 ≡ getD s (PLACES + i) 0
   unfolding columnsOf
   place-at i inside = parts-at sizes s 1 i inside
 
-  pub next-at : (i : ℕ) → i < 2048 → getD (columnsOf s .next) i 0 ≡ getD s (NEXT + i) 0
+  pub next-at : (i : ℕ) → i < SLOTS → getD (columnsOf s .next) i 0 ≡ getD s (NEXT + i) 0
   unfolding columnsOf
   next-at i inside = parts-at sizes s 2 i inside
 
-  pub first-at : (i : ℕ) → i < 256 → getD (columnsOf s .first) i 0 ≡ getD s (FIRST + i) 0
+  pub first-at : (i : ℕ) → i < cells → getD (columnsOf s .first) i 0 ≡ getD s (FIRST + i) 0
   unfolding columnsOf
   first-at i inside = parts-at sizes s 3 i inside
 
-  pub last-at : (i : ℕ) → i < 256 → getD (columnsOf s .last) i 0 ≡ getD s (LAST + i) 0
+  pub last-at : (i : ℕ) → i < cells → getD (columnsOf s .last) i 0 ≡ getD s (LAST + i) 0
   unfolding columnsOf
   last-at i inside = parts-at sizes s 4 i inside
 
-  pub count-at : (i : ℕ) → i < 256 → getD (columnsOf s .count) i 0 ≡ getD s (COUNT + i) 0
+  pub count-at : (i : ℕ) → i < cells → getD (columnsOf s .count) i 0 ≡ getD s (COUNT + i) 0
   unfolding columnsOf
   count-at i inside = parts-at sizes s 5 i inside
 

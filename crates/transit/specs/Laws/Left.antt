@@ -5,10 +5,10 @@ use mathlib.Core.Path.{_≡_, ap}
 use Prim.Native.Nat.{ℕ, _+_, _-_, _<_, _≤_}
 use native.Mathlib.Omega.{arith}
 use lib.ListN.{length, getD, set, length-set}
-use Rattle.transit.specs.Columns.{columnsOf, NEXT, FIRST, COUNT, UNREAD}
+use Rattle.transit.specs.Columns.{columnsOf, NEXT, FIRST, COUNT, UNREAD, SLOTS, DEAD}
 use Rattle.base.specs.Lists.{tally, without}
 use Rattle.transit.specs.Mail.{messagesIn, Mail, Left}
-use Rattle.transit.specs.Message.{between}
+use Rattle.transit.specs.Message.{between, ranks, cells}
 use Rattle.transit.specs.Slots.{pairOf}
 use Rattle.transit.specs.declared.Rank.{Rank}
 use Rattle.transit.specs.Laws.Columns.{
@@ -32,12 +32,12 @@ use Rattle.transit.specs.Laws.Take.{front, taken, take-index}
 abbrev pub without-first : List ℕ → ℕ → List ℕ
 without-first s p =
     let at = getD s (FIRST + p) 0 in
-    set (set (set (set s at 256) (FIRST + p) (getD s (NEXT + at) 0)) (COUNT + p) (getD s (COUNT + p) 0 - 1)) UNREAD (getD s UNREAD 0 - 1)
+    set (set (set (set s at DEAD) (FIRST + p) (getD s (NEXT + at) 0)) (COUNT + p) (getD s (COUNT + p) 0 - 1)) UNREAD (getD s UNREAD 0 - 1)
 
-module _ {s v : List ℕ} (a b : Rank) (d : Mail s v) (small-a : a .0 < 16) (small-b : b .0 < 16)
+module _ {s v : List ℕ} (a b : Rank) (d : Mail s v) (small-a : a .0 < ranks) (small-b : b .0 < ranks)
     (some : 0 < tally (between a b) (messagesIn s v)) where
   -- The pair has a pair's number.
-  small : pairOf a b < 256
+  small : pairOf a b < cells
   small = pair-small a b small-a small-b
 
   -- The pair's count is what is unread of it.
@@ -45,13 +45,13 @@ module _ {s v : List ℕ} (a b : Rank) (d : Mail s v) (small-a : a .0 < 16) (sma
   count-is = count-in a b d small-a small-b
 
   -- The pair has a first slot.
-  first-inside : front (columnsOf s) (pairOf a b) < 2048
+  first-inside : front (columnsOf s) (pairOf a b) < SLOTS
   first-inside =
       first-some (d .index) (column-sizes s (d .slots-long)) (pairOf a b) small
       (omega (arith, count-is, count-at s (pairOf a b) small))
 
   -- The pair's first slot is one.
-  pub at-inside : getD s (FIRST + pairOf a b) 0 < 2048
+  pub at-inside : getD s (FIRST + pairOf a b) 0 < SLOTS
   at-inside = omega (arith, first-at s (pairOf a b) small, first-inside)
 
   -- The pair has one at least.
@@ -67,14 +67,14 @@ module _ {s v : List ℕ} (a b : Rank) (d : Mail s v) (small-a : a .0 < 16) (sma
   columns-left =
       let p = pairOf a b in
       let at = getD s (FIRST + p) 0 in
-      let s1 = set s at 256 in
+      let s1 = set s at DEAD in
       let s2 = set s1 (FIRST + p) (getD s (NEXT + at) 0) in
       let s3 = set s2 (COUNT + p) (getD s (COUNT + p) 0 - 1) in
       rw (
         store-unread s3 (getD s UNREAD 0 - 1) (simp length-set (d .slots-long)),
         store-count s2 p (getD s (COUNT + p) 0 - 1) small,
         store-first s1 p (getD s (NEXT + at) 0) small,
-        store-pair s at 256 at-inside,
+        store-pair s at DEAD at-inside,
         first-at s p small,
         next-at s at at-inside,
         count-at s p small,
@@ -101,7 +101,7 @@ module _ {s v : List ℕ} (a b : Rank) (d : Mail s v) (small-a : a .0 < 16) (sma
         index = rw columns-left (take-index (d .index) z p small first-inside);
         placed = λ k h live.
             rw columns-left (d .placed k h
-            (read-by (c .pairs) (front c p) 256 (omega (arith, z .pairs-long, first-inside)) (λ q. q < 256 → getD (c .pairs) k 0 < 256) k
+            (read-by (c .pairs) (front c p) DEAD (omega (arith, z .pairs-long, first-inside)) (λ q. q < cells → getD (c .pairs) k 0 < cells) k
             (λ _ l. absurd (omega arith)) (λ _ l. l) (rw columns-left at live)));
         within = rw columns-left (d .within);
         stored = rw columns-left (omega (arith, d .stored));

@@ -10,10 +10,11 @@ use borrow.Author.Tests.{eqb-true, eqb-false, ne-eqb, ltb-true, ltb-false}
 use lib.Dec.{eqb, ltb}
 use lib.ListN.{length, getD, set}
 use lib.Seq.{getD-set-same, getD-set-other}
-use Rattle.transit.specs.Columns.{Columns, withPlaces}
+use Rattle.transit.specs.Columns.{Columns, withPlaces, SLOTS, DEAD}
 use Rattle.transit.specs.Index.{Next, slotsOf, Index, Sizes}
 use Rattle.base.specs.Laws.Lists.{tally-bounded}
 use Rattle.base.specs.Laws.Tests.{by-test}
+use Rattle.transit.specs.Message.{cells}
 
 -- 1 where a slot is of the pair
 abbrev one : ℕ → ℕ → ℕ
@@ -59,20 +60,20 @@ slots-none : (p : ℕ) (l : List ℕ) → ((k : ℕ) → k < length l → getD l
 slots-none p [] apart = refl
 slots-none p (x ∷ l) apart = rw (ne-eqb x p (apart 0 (omega arith))) (slots-none p l (λ k h. apart (suc k) (omega arith)))
 
-module _ {c : Columns} (x : Index c) (z : Sizes c) (p : ℕ) (small : p < 256) where
+module _ {c : Columns} (x : Index c) (z : Sizes c) (p : ℕ) (small : p < cells) where
   -- A pair that has some has a first slot.
-  pub first-some : 0 < getD (c .count) p 0 → getD (c .first) p 0 < 2048
+  pub first-some : 0 < getD (c .count) p 0 → getD (c .first) p 0 < SLOTS
   first-some some =
       let first = getD (c .first) p 0 in
-      by-test (ltb first 2048)
-      (ltb-true first 2048)
+      by-test (ltb first SLOTS)
+      (ltb-true first SLOTS)
       (λ e.
-      let end : 2048 ≤ first = ltb-false first 2048 e in
+      let end : SLOTS ≤ first = ltb-false first SLOTS e in
       let none = slots-none p (c .pairs) (λ k h. x .firsts p small .apart k (omega arith) (omega (arith, z .pairs-long))) in
       absurd (omega (arith, x .counts p small)))
 
   -- A pair has no more slots than there are.
-  pub count-bounded : getD (c .count) p 0 ≤ 2048
+  pub count-bounded : getD (c .count) p 0 ≤ SLOTS
   count-bounded = omega (arith, x .counts p small, tally-bounded (λ y. eqb y p) (c .pairs), z .pairs-long)
 
 -- The index does not look at the places.
@@ -80,8 +81,8 @@ pub index-places : {c : Columns} (l : List ℕ) → Index c → Index (withPlace
 index-places l x = record { firsts = x .firsts; nexts = x .nexts; lasts = x .lasts; counts = x .counts; dead = x .dead }
 
 -- The index of dead slots, of pairs that have none.
-pub index-none : {c : Columns} → Sizes c → c .tail ≡ 0 → ((k : ℕ) → k < 2048 → getD (c .pairs) k 0 ≡ 256)
-    → ((p : ℕ) → p < 256 → getD (c .first) p 0 ≡ 2048) → ((p : ℕ) → p < 256 → getD (c .count) p 0 ≡ 0) → Index c
+pub index-none : {c : Columns} → Sizes c → c .tail ≡ 0 → ((k : ℕ) → k < SLOTS → getD (c .pairs) k 0 ≡ DEAD)
+    → ((p : ℕ) → p < cells → getD (c .first) p 0 ≡ SLOTS) → ((p : ℕ) → p < cells → getD (c .count) p 0 ≡ 0) → Index c
 index-none {c} z front dead firsts counts = record {
   firsts = λ p b. rw (firsts p b) (record {
     past = omega arith;

@@ -9,13 +9,14 @@ use borrow.Author.Tests.{eqb-true, eqb-false}
 use lib.Dec.{eqb}
 use lib.ListN.{length, getD, set}
 use lib.Seq.{getD-set-same, getD-set-other}
-use Rattle.transit.specs.Columns.{columnsOf, FIRST, COUNT, TAIL, UNREAD}
+use Rattle.transit.specs.Columns.{columnsOf, FIRST, COUNT, TAIL, UNREAD, SLOTS, DEAD, slotsLength}
 use Rattle.transit.specs.Mail.{messagesIn, Loaded}
 use Rattle.transit.specs.Slots.{messageAt}
 use Rattle.transit.specs.Laws.Columns.{column-sizes, pair-at, first-at, count-at, tail-is, unread-is}
 use Rattle.transit.specs.Laws.Held.{held-dead}
 use Rattle.transit.specs.Laws.Links.{index-none}
 use Rattle.base.specs.Laws.Tests.{by-test}
+use Rattle.transit.specs.Message.{cells}
 
 -- n numbers from an offset on are x
 abbrev pub Filled : List ℕ → ℕ → ℕ → ℕ → Type 0
@@ -36,21 +37,21 @@ fill-kept s o x n i y apart f k h = getD-set-other s i (o + k) y 0 (apart k h) �
 
 -- all slots are dead and no pair has one
 pub record Emptied (s : List ℕ) : Type 0 where
-  pub long : length s ≡ 6914
-  pub dead : Filled s 0 256 2048
-  pub firsts : Filled s FIRST 2048 256
-  pub counts : Filled s COUNT 0 256
+  pub long : length s ≡ slotsLength
+  pub dead : Filled s 0 DEAD SLOTS
+  pub firsts : Filled s FIRST SLOTS cells
+  pub counts : Filled s COUNT 0 cells
   pub tail : getD s TAIL 0 ≡ 0
   pub unread : getD s UNREAD 0 ≡ 0
 
 -- Emptied slots hold no message.
-pub empty : {s : List ℕ} (v : List ℕ) → Emptied s → length v ≡ 2048 → Loaded [] s v
+pub empty : {s : List ℕ} (v : List ℕ) → Emptied s → length v ≡ SLOTS → Loaded [] s v
 unfolding messagesIn
 empty {s} v e long =
     let c = columnsOf s in
     let z = column-sizes s (e .long) in
     let front : c .tail ≡ 0 = tail-is s ∙ e .tail in
-    let dead : (k : ℕ) → k < 2048 → getD (c .pairs) k 0 ≡ 256 = (λ k h.
+    let dead : (k : ℕ) → k < SLOTS → getD (c .pairs) k 0 ≡ DEAD = (λ k h.
     let at : 0 + k ≡ k = omega arith in
     pair-at s k h ∙ rw at at (e .dead k h)) in
     let none : messagesIn s v ≡ [] = held-dead (messageAt (c .places) v) 0 (c .pairs) (λ k h. dead k (omega (arith, z .pairs-long))) in

@@ -11,7 +11,7 @@ use lib.ListN.{length, getD}
 use Rattle.transit.specs.Columns.{columnsOf, COUNT, UNREAD}
 use Rattle.base.specs.Lists.{select, tally, every}
 use Rattle.transit.specs.Mail.{messagesIn, Mail}
-use Rattle.transit.specs.Message.{sameRank, to, between}
+use Rattle.transit.specs.Message.{sameRank, to, between, ranks}
 use Rattle.transit.specs.Slots.{pairOf, ranked}
 use Rattle.transit.specs.declared.Message.{Message}
 use Rattle.transit.specs.declared.Rank.{Rank}
@@ -30,7 +30,7 @@ pub unread-in : {s v : List ℕ} → Mail s v → getD s UNREAD 0 ≡ length (me
 unread-in {s} {v} d = sym (unread-is s) ∙ d .stored
 
 -- The number stored for a pair is how many of its messages are unread.
-pub count-in : {s v : List ℕ} (a b : Rank) → Mail s v → a .0 < 16 → b .0 < 16
+pub count-in : {s v : List ℕ} (a b : Rank) → Mail s v → a .0 < ranks → b .0 < ranks
     → getD s (COUNT + pairOf a b) 0 ≡ tally (between a b) (messagesIn s v)
 unfolding messagesIn
 count-in {s} {v} a b d small-a small-b =
@@ -42,21 +42,21 @@ none-in s v q never =
     select-none q (messagesIn s v) (every-wider ranked (λ m. not (q m)) (λ m h. rw (never m h)) (messagesIn s v) (ranked-in s v))
 
 -- No message is from a rank past the sixteen.
-pub sender-past : (a : Rank) (m : Message) → 16 ≤ a .0 → ranked m ≡ true → sameRank (m .sender) a ≡ false
+pub sender-past : (a : Rank) (m : Message) → ranks ≤ a .0 → ranked m ≡ true → sameRank (m .sender) a ≡ false
 sender-past a m past h =
-    ne-eqb (m .sender .0) (a .0) (λ e. omega (arith, e, ltb-true (m .sender .0) 16 (both-left (ltb (m .sender .0) 16) _ h)))
+    ne-eqb (m .sender .0) (a .0) (λ e. omega (arith, e, ltb-true (m .sender .0) ranks (both-left (ltb (m .sender .0) ranks) _ h)))
 
 -- No message is to a rank past the sixteen.
-pub receiver-past : (b : Rank) (m : Message) → 16 ≤ b .0 → ranked m ≡ true → to b m ≡ false
+pub receiver-past : (b : Rank) (m : Message) → ranks ≤ b .0 → ranked m ≡ true → to b m ≡ false
 receiver-past b m past h =
     ne-eqb (m .receiver .0) (b .0)
-    (λ e. omega (arith, e, ltb-true (m .receiver .0) 16 (both-right (ltb (m .sender .0) 16) _ h)))
+    (λ e. omega (arith, e, ltb-true (m .receiver .0) ranks (both-right (ltb (m .sender .0) ranks) _ h)))
 
 -- No message is of a pair whose sender is past the sixteen.
-pub between-past-sender : (a b : Rank) (m : Message) → 16 ≤ a .0 → ranked m ≡ true → between a b m ≡ false
+pub between-past-sender : (a b : Rank) (m : Message) → ranks ≤ a .0 → ranked m ≡ true → between a b m ≡ false
 between-past-sender a b m past h = rw (sender-past a m past h)
 
 -- No message is of a pair whose receiver is past the sixteen.
-pub between-past-receiver : (a b : Rank) (m : Message) → 16 ≤ b .0 → ranked m ≡ true → between a b m ≡ false
+pub between-past-receiver : (a b : Rank) (m : Message) → ranks ≤ b .0 → ranked m ≡ true → between a b m ≡ false
 between-past-receiver a b m past h =
     by-test (sameRank (m .sender) a) (λ e. rw (e, receiver-past b m past h)) (λ e. rw e)

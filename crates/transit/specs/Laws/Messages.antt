@@ -10,10 +10,10 @@ use borrow.Author.Tests.{eqb-true, eqb-false, eq-eqb, ne-eqb, lt-ltb, ltb-true, 
 use lib.Dec.{eqb, ltb}
 use lib.ListN.{length, getD, set}
 use lib.Seq.{getD-set-same, getD-set-other}
-use Rattle.transit.specs.Columns.{Columns}
+use Rattle.transit.specs.Columns.{Columns, SLOTS}
 use Rattle.transit.specs.Index.{slotsOf, Index, Sizes}
 use Rattle.base.specs.Lists.{select, tally, without, every}
-use Rattle.transit.specs.Message.{between, placeNumber}
+use Rattle.transit.specs.Message.{between, placeNumber, ranks, cells}
 use Rattle.transit.specs.Slots.{held, pairOf, placeOf, messageOf, messageAt, messagesOf, ranked}
 use Rattle.transit.specs.declared.Message.{Message}
 use Rattle.transit.specs.declared.Place.{Place}
@@ -36,42 +36,42 @@ pub held-ranked : (places values : List ℕ) (i : ℕ) (ps : List ℕ) → every
 held-ranked places values i [] = refl
 held-ranked places values i (p ∷ ps) =
     let rest = held-ranked places values (suc i) ps in
-    by-test (ltb p 256)
+    by-test (ltb p cells)
     (λ e.
-    let small = ltb-true p 256 e in
-    rw (e, lt-ltb (p / 16) 16 (omega arith), lt-ltb (p % 16) 16 (omega arith)) rest)
+    let small = ltb-true p cells e in
+    rw (e, lt-ltb (p / ranks) ranks (omega arith), lt-ltb (p % ranks) ranks (omega arith)) rest)
     (λ e. rw e rest)
 
 -- There are as many messages of a pair as slots.
-held-tally : {A : Type 0} (f : ℕ → ℕ → A) (q : A → Bool) (p : ℕ) → p < 256 → ((k x : ℕ) → x < 256 → q (f k x) ≡ eqb x p)
+held-tally : {A : Type 0} (f : ℕ → ℕ → A) (q : A → Bool) (p : ℕ) → p < cells → ((k x : ℕ) → x < cells → q (f k x) ≡ eqb x p)
     → (i : ℕ) (ps : List ℕ) → tally q (held f i ps) ≡ slotsOf p ps
 held-tally f q p small tells i [] = refl
 held-tally f q p small tells i (x ∷ ps) =
     let rest = held-tally f q p small tells (suc i) ps in
-    by-test (ltb x 256)
+    by-test (ltb x cells)
     (λ e. by-test (eqb x p)
-    (λ d. rw (e, tells i x (ltb-true x 256 e), d) (ap suc rest))
-    (λ d. rw (e, tells i x (ltb-true x 256 e), d) rest))
+    (λ d. rw (e, tells i x (ltb-true x cells e), d) (ap suc rest))
+    (λ d. rw (e, tells i x (ltb-true x cells e), d) rest))
     (λ e. by-test (eqb x p)
-    (λ d. absurd (omega (arith, eqb-true x p d, ltb-false x 256 e)))
+    (λ d. absurd (omega (arith, eqb-true x p d, ltb-false x cells e)))
     (λ d. rw (e, d) rest))
 
-module _ (a b : Rank) (small-a : a .0 < 16) (small-b : b .0 < 16) where
+module _ (a b : Rank) (small-a : a .0 < ranks) (small-b : b .0 < ranks) where
   -- The pair of two ranks has a pair's number.
-  pub pair-small : pairOf a b < 256
+  pub pair-small : pairOf a b < cells
   pair-small = omega arith
 
   -- A message is between two ranks if its slot is of their pair, whatever its place and value.
-  pub between-pair : (p : ℕ) → p < 256 → between a b (messageOf p 0 0) ≡ eqb p (pairOf a b)
+  pub between-pair : (p : ℕ) → p < cells → between a b (messageOf p 0 0) ≡ eqb p (pairOf a b)
   between-pair p small =
       by-test (eqb p (pairOf a b))
       (λ e.
       let same = eqb-true p (pairOf a b) e in
-      rw (e, eq-eqb (p / 16) (a .0) (omega (arith, same)), eq-eqb (p % 16) (b .0) (omega (arith, same))))
+      rw (e, eq-eqb (p / ranks) (a .0) (omega (arith, same)), eq-eqb (p % ranks) (b .0) (omega (arith, same))))
       (λ e.
       let other = eqb-false p (pairOf a b) e in
-      by-test (eqb (p / 16) (a .0))
-      (λ d. rw (e, d, ne-eqb (p % 16) (b .0) (λ c. other (omega (arith, c, eqb-true (p / 16) (a .0) d)))))
+      by-test (eqb (p / ranks) (a .0))
+      (λ d. rw (e, d, ne-eqb (p % ranks) (b .0) (λ c. other (omega (arith, c, eqb-true (p / ranks) (a .0) d)))))
       (λ d. rw (e, d)))
 
   module _ {c : Columns} (x : Index c) (values : List ℕ) where
@@ -83,9 +83,9 @@ module _ (a b : Rank) (small-a : a .0 < 16) (small-b : b .0 < 16) where
         ∙ sym (held-tally f (between a b) (pairOf a b) pair-small
         (λ k p h. between-pair p h) 0 (c .pairs))
 
-    module _ (z : Sizes c) (some : front c (pairOf a b) < 2048) where
+    module _ (z : Sizes c) (some : front c (pairOf a b) < SLOTS) where
       -- The first slot of the pair is live.
-      first-live : getD (c .pairs) (front c (pairOf a b)) 0 < 256
+      first-live : getD (c .pairs) (front c (pairOf a b)) 0 < cells
       first-live = omega (arith, x .firsts (pairOf a b) pair-small .here some, pair-small)
 
       -- Its message is of the pair.
@@ -95,7 +95,7 @@ module _ (a b : Rank) (small-a : a .0 < 16) (small-b : b .0 < 16) where
           ∙ eq-eqb (getD (c .pairs) (front c (pairOf a b)) 0) (pairOf a b) (x .firsts (pairOf a b) pair-small .here some)
 
       -- No message before it is.
-      before-other : (k : ℕ) → k < front c (pairOf a b) → getD (c .pairs) k 0 < 256
+      before-other : (k : ℕ) → k < front c (pairOf a b) → getD (c .pairs) k 0 < cells
           → between a b (messageAt (c .places) values (0 + k) (getD (c .pairs) k 0)) ≡ false
       before-other k h live =
           between-pair (getD (c .pairs) k 0) live
@@ -120,8 +120,8 @@ module _ (a b : Rank) (small-a : a .0 < 16) (small-b : b .0 < 16) where
           )
 
 -- Where a slot is filled behind all others, its message comes last.
-pub put-messages : {c : Columns} (values next first : List ℕ) (m : Message) → Index c → Sizes c → length values ≡ 2048
-    → c .tail < 2048 → m .sender .0 < 16 → m .receiver .0 < 16
+pub put-messages : {c : Columns} (values next first : List ℕ) (m : Message) → Index c → Sizes c → length values ≡ SLOTS
+    → c .tail < SLOTS → m .sender .0 < ranks → m .receiver .0 < ranks
     → messagesOf
     (filled c (pairOf (m .sender) (m .receiver)) (set (c .places) (c .tail) (placeNumber (m .place))) next first)
     (set values (c .tail) (m .value))
@@ -130,11 +130,11 @@ put-messages {c} values next first m x z long inside small-a small-b =
     let t = c .tail in
     let n = placeNumber (m .place) in
     let p = pairOf (m .sender) (m .receiver) in
-    let small : p < 256 = omega arith in
+    let small : p < cells = omega arith in
     let f = messageAt (c .places) values in
     let g = messageAt (set (c .places) t n) (set values t (m .value)) in
-    let from : p / 16 ≡ m .sender .0 = omega arith in
-    let to : p % 16 ≡ m .receiver .0 = omega arith in
+    let from : p / ranks ≡ m .sender .0 = omega arith in
+    let to : p % ranks ≡ m .receiver .0 = omega arith in
     let made : g t p ≡ m =
     rw (
       from,

@@ -10,10 +10,10 @@ use borrow.Author.Tests.{eqb-true, eqb-false, le-ltb, ltb-true, ltb-false}
 use lib.Dec.{eqb, leb, ltb}
 use lib.ListN.{length, getD, set, take, length-set, length-map}
 use lib.Seq.{getD-set-same, getD-set-other, take-all}
-use Rattle.transit.specs.Columns.{Columns, columnsOf, PLACES}
+use Rattle.transit.specs.Columns.{Columns, columnsOf, PLACES, SLOTS, slotsLength}
 use Rattle.base.specs.Lists.{tally, changeEach}
 use Rattle.transit.specs.Mail.{messagesIn, Mail, Relabelled}
-use Rattle.transit.specs.Message.{placeNumber, picks, relabelled}
+use Rattle.transit.specs.Message.{placeNumber, picks, relabelled, cells}
 use Rattle.transit.specs.Pick.{picked, hits, Passed}
 use Rattle.transit.specs.Slots.{held, messageOf, messageAt}
 use Rattle.transit.specs.Unread.{eachTo}
@@ -41,12 +41,12 @@ hits-few w c (suc i) =
     omega (arith, hits-few w c i, one-at-most (picked w (getD (c .pairs) i 0) (getD (c .places) i 0)))
 
 -- A slot of no pair is not picked.
-dead-other : (w : Pick) (p n : ℕ) → w .high ≤ 256 → 256 ≤ p → picked w p n ≡ false
+dead-other : (w : Pick) (p n : ℕ) → w .high ≤ cells → cells ≤ p → picked w p n ≡ false
 dead-other w p n top dead =
     by-test (leb (w .low) p) (λ e. rw (e, le-ltb p (w .high) (omega arith))) (λ e. rw e)
 
 -- Before a pass nothing has changed.
-pub pass-start : (w : Pick) (to : ℕ) (s : List ℕ) → length s ≡ 6914 → Passed w to s 0 0 s
+pub pass-start : (w : Pick) (to : ℕ) (s : List ℕ) → length s ≡ slotsLength → Passed w to s 0 0 s
 unfolding hits
 pass-start w to s long = record {
   long = long;
@@ -57,7 +57,7 @@ pass-start w to s long = record {
 }
 
 -- A pass has come one slot further.
-pub pass-next : {w : Pick} {to : ℕ} {s s' : List ℕ} {i n : ℕ} → i < 2048 → Passed w to s i n s'
+pub pass-next : {w : Pick} {to : ℕ} {s s' : List ℕ} {i n : ℕ} → i < SLOTS → Passed w to s i n s'
     → let hit = picked w (getD s' i 0) (getD s' (PLACES + i) 0) in
     Passed w to s (i + 1) (n + cond hit 1 0) (set s' (PLACES + i) (cond hit to (getD s' (PLACES + i) 0)))
 unfolding hits
@@ -81,16 +81,16 @@ pass-next {w} {to} {s} {s'} {i} {n} inside g =
       counted = rw (add-one, g .counted, pair, place);
     }
 
-module _ {s v : List ℕ} (d : Mail s v) (sel : Selection) (w : Pick) (top : w .high ≤ 256)
-    (agree : (p n x : ℕ) → p < 256 → n < 4 → picks sel (messageOf p n x) ≡ picked w p n) where
+module _ {s v : List ℕ} (d : Mail s v) (sel : Selection) (w : Pick) (top : w .high ≤ cells)
+    (agree : (p n x : ℕ) → p < cells → n < 4 → picks sel (messageOf p n x) ≡ picked w p n) where
   -- A live slot is picked if its message is selected.
-  here : (k : ℕ) → k < 2048 → getD (columnsOf s .pairs) k 0 < 256
+  here : (k : ℕ) → k < SLOTS → getD (columnsOf s .pairs) k 0 < cells
       → picks sel (messageAt (columnsOf s .places) v k (getD (columnsOf s .pairs) k 0))
       ≡ picked w (getD (columnsOf s .pairs) k 0) (getD (columnsOf s .places) k 0)
   here k h live = agree _ _ _ live (d .placed k h live)
 
   -- As many of the first slots are picked as of their messages are selected.
-  hits-held : (i : ℕ) → i ≤ 2048
+  hits-held : (i : ℕ) → i ≤ SLOTS
       → hits w (columnsOf s) i ≡ tally (picks sel) (held (messageAt (columnsOf s .places) v) 0 (take i (columnsOf s .pairs)))
   unfolding hits
   hits-held zero fits = refl
@@ -100,27 +100,27 @@ module _ {s v : List ℕ} (d : Mail s v) (sel : Selection) (w : Pick) (top : w .
       let p = getD (c .pairs) i 0 in
       let fits' : i < length (c .pairs) = omega (arith, column-sizes s (d .slots-long) .pairs-long) in
       let before = hits-held i (omega arith) in
-      by-test (ltb p 256)
+      by-test (ltb p cells)
       (λ e.
-      let live = ltb-true p 256 e in
+      let live = ltb-true p cells e in
       let grown = rw add-one at (held-live f (c .pairs) i fits' live) in
       rw (grown, tally-append, before) (by-test (picked w p (getD (c .places) i 0))
       (λ h. rw (here i (omega arith) live, h))
       (λ h. rw (here i (omega arith) live, h))))
       (λ e.
-      let dead = ltb-false p 256 e in
+      let dead = ltb-false p cells e in
       let same = rw add-one at (held-gone f (c .pairs) i fits' dead) in
       rw (same, dead-other w p (getD (c .places) i 0) top dead) (omega (arith, before)))
 
   -- As many slots are picked as messages are selected.
-  pub hits-tally : hits w (columnsOf s) 2048 ≡ tally (picks sel) (messagesIn s v)
+  pub hits-tally : hits w (columnsOf s) SLOTS ≡ tally (picks sel) (messagesIn s v)
   unfolding messagesIn
   hits-tally =
       let c = columnsOf s in
-      let all : take 2048 (c .pairs) ≡ c .pairs = take-all 2048 (c .pairs) (omega (arith, column-sizes s (d .slots-long) .pairs-long)) in
-      hits-held 2048 (omega arith) ∙ rw all
+      let all : take SLOTS (c .pairs) ≡ c .pairs = take-all SLOTS (c .pairs) (omega (arith, column-sizes s (d .slots-long) .pairs-long)) in
+      hits-held SLOTS (omega arith) ∙ rw all
 
-  module _ (to : Place) {n : ℕ} {s' : List ℕ} (g : Passed w (placeNumber to) s 2048 n s') where
+  module _ (to : Place) {n : ℕ} {s' : List ℕ} (g : Passed w (placeNumber to) s SLOTS n s') where
     -- Each selected message is at the place.
     pass-same : messagesIn s' v ≡ eachTo sel to (messagesIn s v)
     unfolding messagesIn
@@ -130,7 +130,7 @@ module _ {s v : List ℕ} (d : Mail s v) (sel : Selection) (w : Pick) (top : w .
         let f' = messageAt (columnsOf s' .places) v in
         rw (g .others) (held-map f f' (changeEach (picks sel) (relabelled to)) 0 (c .pairs) (λ k h live.
         let z : 0 + k ≡ k = omega arith in
-        let inside : k < 2048 = omega (arith, column-sizes s (d .slots-long) .pairs-long) in
+        let inside : k < SLOTS = omega (arith, column-sizes s (d .slots-long) .pairs-long) in
         rw (z, g .done k inside) (by-test (picked w (getD (c .pairs) k 0) (getD (c .places) k 0))
         (λ e. rw (here k inside live, e, place-back to))
         (λ e. rw (here k inside live, e)))))

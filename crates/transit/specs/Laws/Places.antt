@@ -6,7 +6,7 @@ use Prim.Native.Nat.{ℕ, _+_, _*_, _/_, _<_}
 use native.Mathlib.Omega.{arith}
 use borrow.Author.Tests.{eqb-true, eqb-false, le-leb, lt-ltb, le-ltb, leb-true}
 use lib.Dec.{eqb, leb}
-use Rattle.transit.specs.Message.{placeNumber, picks}
+use Rattle.transit.specs.Message.{placeNumber, picks, ranks, cells}
 use Rattle.transit.specs.Pick.{picked}
 use Rattle.transit.specs.Slots.{pairOf, placeOf, messageOf}
 use Rattle.transit.specs.declared.Place.{Place}
@@ -29,32 +29,32 @@ number-back n small =
 
 -- the slots of the pair from a to b at a place
 abbrev pub pickBetween : Rank → Rank → Place → Pick
-pickBetween a b place = record { low = 16 * a .0; high = 16 * a .0 + 16; receiver = b .0; place = placeNumber place }
+pickBetween a b place = record { low = ranks * a .0; high = ranks * a .0 + ranks; receiver = b .0; place = placeNumber place }
 
 -- the slots of all pairs to r at a place
 abbrev pub pickTo : Rank → Place → Pick
-pickTo r place = record { low = 0; high = 256; receiver = r .0; place = placeNumber place }
+pickTo r place = record { low = 0; high = cells; receiver = r .0; place = placeNumber place }
 
-module _ (p n : ℕ) (small : p < 256) (place-small : n < 4) where
+module _ (p n : ℕ) (small : p < cells) (place-small : n < 4) where
   -- A message of a pair at a place is in a slot of those numbers.
-  pub picks-pair : (a b : Rank) (place : Place) → a .0 < 16 → b .0 < 16
+  pub picks-pair : (a b : Rank) (place : Place) → a .0 < ranks → b .0 < ranks
       → picks (BetweenAt a b place) (messageOf p n 0) ≡ (eqb p (pairOf a b) && eqb n (placeNumber place))
   picks-pair a b place small-a small-b = rw (between-pair a b small-a small-b p small, number-back n place-small)
 
   -- A pass over the slots of a pair at a place picks just those messages.
-  pub picked-between : (a b : Rank) (place : Place) → a .0 < 16 → b .0 < 16
+  pub picked-between : (a b : Rank) (place : Place) → a .0 < ranks → b .0 < ranks
       → picks (BetweenAt a b place) (messageOf p n 0) ≡ picked (pickBetween a b place) p n
   picked-between a b place small-a small-b =
-      by-test (eqb (p / 16) (a .0))
+      by-test (eqb (p / ranks) (a .0))
       (λ e.
-      let same = eqb-true (p / 16) (a .0) e in
-      rw (e, number-back n place-small, le-leb (16 * a .0) p (omega arith), lt-ltb p (16 * a .0 + 16) (omega arith)))
+      let same = eqb-true (p / ranks) (a .0) e in
+      rw (e, number-back n place-small, le-leb (ranks * a .0) p (omega arith), lt-ltb p (ranks * a .0 + ranks) (omega arith)))
       (λ e.
-      let other = eqb-false (p / 16) (a .0) e in
-      by-test (leb (16 * a .0) p)
-      (λ f. rw (e, f, le-ltb p (16 * a .0 + 16) (omega (arith, leb-true (16 * a .0) p f, other))))
+      let other = eqb-false (p / ranks) (a .0) e in
+      by-test (leb (ranks * a .0) p)
+      (λ f. rw (e, f, le-ltb p (ranks * a .0 + ranks) (omega (arith, leb-true (ranks * a .0) p f, other))))
       (λ f. rw (e, f)))
 
   -- A pass over the slots of all pairs to a receiver at a place picks just those messages.
   pub picked-to : (r : Rank) (place : Place) → picks (ToAt r place) (messageOf p n 0) ≡ picked (pickTo r place) p n
-  picked-to r place = rw (number-back n place-small, le-leb 0 p (omega arith), lt-ltb p 256 small)
+  picked-to r place = rw (number-back n place-small, le-leb 0 p (omega arith), lt-ltb p cells small)

@@ -9,10 +9,11 @@ use borrow.Author.Tests.{eqb-true, eqb-false, eq-eqb, ne-eqb, ltb-true, ltb-fals
 use lib.Dec.{eqb, ltb}
 use lib.ListN.{length, getD, set}
 use lib.Seq.{getD-set-same, getD-set-other, lt-length-set}
-use Rattle.transit.specs.Columns.{Columns}
+use Rattle.transit.specs.Columns.{Columns, SLOTS}
 use Rattle.transit.specs.Index.{Next, Last, slotsOf, Index, Sizes}
 use Rattle.transit.specs.Laws.Links.{slots-set, next-other, slots-other}
 use Rattle.base.specs.Laws.Tests.{by-test}
+use Rattle.transit.specs.Message.{cells}
 
 -- the columns with a slot of the pair at the tail: its place, the links and the firsts as given
 abbrev pub filled : Columns → ℕ → List ℕ → List ℕ → List ℕ → Columns
@@ -29,32 +30,32 @@ filled c p places next first = record {
 
 -- what the links and the firsts become
 pub record Joined (c : Columns) (p : ℕ) (next first : List ℕ) : Type 0 where
-  pub new : getD next (c .tail) 0 ≡ 2048
-  pub behind : getD (c .first) p 0 < 2048 → getD next (getD (c .last) p 0) 0 ≡ c .tail
-  pub kept : (i : ℕ) → i ≢ c .tail → (getD (c .first) p 0 < 2048 → i ≢ getD (c .last) p 0) → getD next i 0 ≡ getD (c .next) i 0
-  pub begins : 2048 ≤ getD (c .first) p 0 → getD first p 0 ≡ c .tail
-  pub stays : getD (c .first) p 0 < 2048 → getD first p 0 ≡ getD (c .first) p 0
+  pub new : getD next (c .tail) 0 ≡ SLOTS
+  pub behind : getD (c .first) p 0 < SLOTS → getD next (getD (c .last) p 0) 0 ≡ c .tail
+  pub kept : (i : ℕ) → i ≢ c .tail → (getD (c .first) p 0 < SLOTS → i ≢ getD (c .last) p 0) → getD next i 0 ≡ getD (c .next) i 0
+  pub begins : SLOTS ≤ getD (c .first) p 0 → getD first p 0 ≡ c .tail
+  pub stays : getD (c .first) p 0 < SLOTS → getD first p 0 ≡ getD (c .first) p 0
   pub others : (q : ℕ) → q ≢ p → getD first q 0 ≡ getD (c .first) q 0
 
-module _ {c : Columns} (x : Index c) (z : Sizes c) (p : ℕ) (small : p < 256) (inside : c .tail < 2048) where
+module _ {c : Columns} (x : Index c) (z : Sizes c) (p : ℕ) (small : p < cells) (inside : c .tail < SLOTS) where
   -- The pair had none: the slot is its first.
-  pub joined-first : getD (c .first) p 0 ≡ 2048 → Joined c p (set (c .next) (c .tail) 2048) (set (c .first) p (c .tail))
+  pub joined-first : getD (c .first) p 0 ≡ SLOTS → Joined c p (set (c .next) (c .tail) SLOTS) (set (c .first) p (c .tail))
   joined-first none = record {
-    new = getD-set-same (c .next) (c .tail) 2048 0 (omega (arith, z .next-long));
+    new = getD-set-same (c .next) (c .tail) SLOTS 0 (omega (arith, z .next-long));
     behind = λ some. absurd (omega arith);
-    kept = λ i ne _. getD-set-other (c .next) (c .tail) i 2048 0 ne;
+    kept = λ i ne _. getD-set-other (c .next) (c .tail) i SLOTS 0 ne;
     begins = λ _. getD-set-same (c .first) p (c .tail) 0 (omega (arith, z .first-long));
     stays = λ some. absurd (omega arith);
     others = λ q ne. getD-set-other (c .first) p q (c .tail) 0 ne;
   }
 
-  module _ (some : getD (c .first) p 0 ≢ 2048) where
+  module _ (some : getD (c .first) p 0 ≢ SLOTS) where
     -- It has a first slot.
-    has : getD (c .first) p 0 < 2048
+    has : getD (c .first) p 0 < SLOTS
     has = omega (arith, some, x .firsts p small .within)
 
     -- A pair's last slot is one.
-    pub last-inside : getD (c .last) p 0 < 2048
+    pub last-inside : getD (c .last) p 0 < SLOTS
     last-inside = x .lasts p small has .within
 
     -- That slot is not the one at the tail.
@@ -63,18 +64,18 @@ module _ {c : Columns} (x : Index c) (z : Sizes c) (p : ℕ) (small : p < 256) (
         omega (arith, ap (λ (k : ℕ). getD (c .pairs) k 0) e, x .lasts p small has .own, x .dead (c .tail) (omega arith) inside)
 
     -- The pair had some: the slot is behind its last.
-    pub joined-behind : Joined c p (set (set (c .next) (c .tail) 2048) (getD (c .last) p 0) (c .tail)) (c .first)
+    pub joined-behind : Joined c p (set (set (c .next) (c .tail) SLOTS) (getD (c .last) p 0) (c .tail)) (c .first)
     joined-behind =
         let before = getD (c .last) p 0 in
-        let marked = set (c .next) (c .tail) 2048 in
+        let marked = set (c .next) (c .tail) SLOTS in
         let fits : before < length (c .next) = omega (arith, last-inside, z .next-long) in
         record {
           new =
               getD-set-other marked before (c .tail) (c .tail) 0 (λ e. last-apart (sym e))
-              ∙ getD-set-same (c .next) (c .tail) 2048 0 (omega (arith, z .next-long));
-          behind = λ _. getD-set-same marked before (c .tail) 0 (lt-length-set (c .next) (c .tail) 2048 fits);
+              ∙ getD-set-same (c .next) (c .tail) SLOTS 0 (omega (arith, z .next-long));
+          behind = λ _. getD-set-same marked before (c .tail) 0 (lt-length-set (c .next) (c .tail) SLOTS fits);
           kept = λ i ne apart.
-              getD-set-other marked before i (c .tail) 0 (apart has) ∙ getD-set-other (c .next) (c .tail) i 2048 0 ne;
+              getD-set-other marked before i (c .tail) 0 (apart has) ∙ getD-set-other (c .next) (c .tail) i SLOTS 0 ne;
           begins = λ none. absurd (omega (arith, none, has));
           stays = λ _. refl;
           others = λ q _. refl;
@@ -85,7 +86,7 @@ module _ {c : Columns} (x : Index c) (z : Sizes c) (p : ℕ) (small : p < 256) (
   filled-fits = omega (arith, z .pairs-long)
 
   -- The slot at the tail was of no pair.
-  was-dead : (q : ℕ) → q < 256 → getD (c .pairs) (c .tail) 0 ≢ q
+  was-dead : (q : ℕ) → q < cells → getD (c .pairs) (c .tail) 0 ≢ q
   was-dead q b e = omega (arith, e, x .dead (c .tail) (omega arith) inside)
 
   -- Every other slot is of the pair that it was.
@@ -93,7 +94,7 @@ module _ {c : Columns} (x : Index c) (z : Sizes c) (p : ℕ) (small : p < 256) (
   other-slot k ne = getD-set-other (c .pairs) (c .tail) k p 0 ne
 
   -- Where the pair had no more, the slot is the next.
-  next-end : (i : ℕ) → i ≤ c .tail → Next (c .pairs) p i 2048 → Next (set (c .pairs) (c .tail) p) p i (c .tail)
+  next-end : (i : ℕ) → i ≤ c .tail → Next (c .pairs) p i SLOTS → Next (set (c .pairs) (c .tail) p) p i (c .tail)
   next-end i before n = record {
     past = before;
     within = omega arith;
@@ -102,7 +103,7 @@ module _ {c : Columns} (x : Index c) (z : Sizes c) (p : ℕ) (small : p < 256) (
   }
 
   -- Where it had one, that is still the next.
-  next-before : (i j : ℕ) → j < 2048 → Next (c .pairs) p i j → Next (set (c .pairs) (c .tail) p) p i j
+  next-before : (i j : ℕ) → j < SLOTS → Next (c .pairs) p i j → Next (set (c .pairs) (c .tail) p) p i j
   next-before i j ends n =
       let before : j < c .tail =
       by-test (ltb j (c .tail))
@@ -116,7 +117,7 @@ module _ {c : Columns} (x : Index c) (z : Sizes c) (p : ℕ) (small : p < 256) (
       }
 
   -- Nothing is behind the slot.
-  next-new : Next (set (c .pairs) (c .tail) p) p (suc (c .tail)) 2048
+  next-new : Next (set (c .pairs) (c .tail) p) p (suc (c .tail)) SLOTS
   next-new = record {
     past = omega arith;
     within = omega arith;
@@ -126,15 +127,15 @@ module _ {c : Columns} (x : Index c) (z : Sizes c) (p : ℕ) (small : p < 256) (
 
   module _ (places next first : List ℕ) (j : Joined c p next first) where
     -- Each pair's first slot.
-    put-first : (q : ℕ) → q < 256 → Next (set (c .pairs) (c .tail) p) q 0 (getD first q 0)
+    put-first : (q : ℕ) → q < cells → Next (set (c .pairs) (c .tail) p) q 0 (getD first q 0)
     put-first q b =
         let was = getD (c .first) p 0 in
         by-test (eqb q p)
-        (λ e. rw (eqb-true q p e) (by-test (ltb was 2048)
-        (λ d. let some = ltb-true was 2048 d in rw (j .stays some) (next-before 0 was some (x .firsts p small)))
+        (λ e. rw (eqb-true q p e) (by-test (ltb was SLOTS)
+        (λ d. let some = ltb-true was SLOTS d in rw (j .stays some) (next-before 0 was some (x .firsts p small)))
         (λ d.
-        let none = ltb-false was 2048 d in
-        let at-end : was ≡ 2048 = omega (arith, x .firsts p small .within) in
+        let none = ltb-false was SLOTS d in
+        let at-end : was ≡ SLOTS = omega (arith, x .firsts p small .within) in
         rw (j .begins none) (next-end 0 (omega arith) (rw at-end at (x .firsts p small))))))
         (λ e.
         let h = eqb-false q p e in
@@ -142,23 +143,23 @@ module _ {c : Columns} (x : Index c) (z : Sizes c) (p : ℕ) (small : p < 256) (
         (next-other (c .pairs) (c .tail) p filled-fits q 0 (getD (c .first) q 0) (was-dead q b) (λ a. h (sym a)) (x .firsts q b)))
 
     -- Only the last slot of a pair has none behind it.
-    not-last : (i : ℕ) → i < 2048 → getD (c .pairs) i 0 ≡ p → getD (c .first) p 0 < 2048 → i ≢ getD (c .last) p 0
-        → getD (c .next) i 0 < 2048
+    not-last : (i : ℕ) → i < SLOTS → getD (c .pairs) i 0 ≡ p → getD (c .first) p 0 < SLOTS → i ≢ getD (c .last) p 0
+        → getD (c .next) i 0 < SLOTS
     not-last i b own some ne =
         let l = x .lasts p small some in
         let m = getD (c .last) p 0 in
-        by-test (ltb (getD (c .next) i 0) 2048)
-        (ltb-true _ 2048)
+        by-test (ltb (getD (c .next) i 0) SLOTS)
+        (ltb-true _ SLOTS)
         (λ e. by-test (ltb i m)
         (λ d.
         let past : suc i ≤ m = ltb-true i m d in
-        absurd (x .nexts p i small b own .apart m past (omega (arith, ltb-false (getD (c .next) i 0) 2048 e, l .within)) (l .own)))
+        absurd (x .nexts p i small b own .apart m past (omega (arith, ltb-false (getD (c .next) i 0) SLOTS e, l .within)) (l .own)))
         (λ d.
         let past : suc m ≤ i = omega (arith, ltb-false i m d, ne) in
         absurd (x .nexts p m small (l .within) (l .own) .apart i past (omega (arith, l .over, b)) own)))
 
     -- A slot of the pair that was filled leads to the new one, or on as before.
-    put-own : (i : ℕ) → i < 2048 → i ≢ c .tail → getD (c .pairs) i 0 ≡ p
+    put-own : (i : ℕ) → i < SLOTS → i ≢ c .tail → getD (c .pairs) i 0 ≡ p
         → Next (set (c .pairs) (c .tail) p) p (suc i) (getD next i 0)
     put-own i ib apart own =
         let f = getD (c .first) p 0 in
@@ -166,15 +167,15 @@ module _ {c : Columns} (x : Index c) (z : Sizes c) (p : ℕ) (small : p < 256) (
         by-test (ltb i (c .tail))
         (λ a. omega (arith, ltb-true i (c .tail) a))
         (λ a. absurd (omega (arith, x .dead i (ltb-false i (c .tail) a) ib, own))) in
-        let some : f < 2048 =
-        by-test (ltb f 2048)
-        (ltb-true f 2048)
-        (λ a. absurd (x .firsts p small .apart i (omega arith) (omega (arith, ltb-false f 2048 a)) own)) in
+        let some : f < SLOTS =
+        by-test (ltb f SLOTS)
+        (ltb-true f SLOTS)
+        (λ a. absurd (x .firsts p small .apart i (omega arith) (omega (arith, ltb-false f SLOTS a)) own)) in
         let n = x .nexts p i small ib own in
         by-test (eqb i (getD (c .last) p 0))
         (λ a.
         let l = eqb-true i (getD (c .last) p 0) a in
-        let over : getD (c .next) i 0 ≡ 2048 = ap (λ (k : ℕ). getD (c .next) k 0) l ∙ x .lasts p small some .over in
+        let over : getD (c .next) i 0 ≡ SLOTS = ap (λ (k : ℕ). getD (c .next) k 0) l ∙ x .lasts p small some .over in
         let to : getD next i 0 ≡ c .tail = ap (λ (k : ℕ). getD next k 0) l ∙ j .behind some in
         rw to (next-end (suc i) before (rw over at n)))
         (λ a.
@@ -182,7 +183,7 @@ module _ {c : Columns} (x : Index c) (z : Sizes c) (p : ℕ) (small : p < 256) (
         rw (j .kept i apart (λ _. ne)) (next-before (suc i) (getD (c .next) i 0) (not-last i ib own some ne) n))
 
     -- Each live slot's next.
-    put-next : (q i : ℕ) → q < 256 → i < 2048 → getD (set (c .pairs) (c .tail) p) i 0 ≡ q
+    put-next : (q i : ℕ) → q < cells → i < SLOTS → getD (set (c .pairs) (c .tail) p) i 0 ≡ q
         → Next (set (c .pairs) (c .tail) p) q (suc i) (getD next i 0)
     put-next q i b ib own =
         by-test (eqb i (c .tail))
@@ -204,7 +205,7 @@ module _ {c : Columns} (x : Index c) (z : Sizes c) (p : ℕ) (small : p < 256) (
         (was-dead q b) (λ a. s (sym a)) (x .nexts q i b ib was))))
 
     -- Each pair's last slot.
-    put-last : (q : ℕ) → q < 256 → getD first q 0 < 2048
+    put-last : (q : ℕ) → q < cells → getD first q 0 < SLOTS
         → Last (set (c .pairs) (c .tail) p) next q (getD (set (c .last) p (c .tail)) q 0)
     put-last q b some =
         by-test (eqb q p)
@@ -224,7 +225,7 @@ module _ {c : Columns} (x : Index c) (z : Sizes c) (p : ℕ) (small : p < 256) (
         }))
 
     -- Each pair's count.
-    put-count : (q : ℕ) → q < 256 → getD (set (c .count) p (getD (c .count) p 0 + 1)) q 0 ≡ slotsOf q (set (c .pairs) (c .tail) p)
+    put-count : (q : ℕ) → q < cells → getD (set (c .count) p (getD (c .count) p 0 + 1)) q 0 ≡ slotsOf q (set (c .pairs) (c .tail) p)
     put-count q b =
         let more = getD (c .count) p 0 + 1 in
         by-test (eqb q p)

@@ -10,11 +10,11 @@ use borrow.Author.Tests.{eqb-true, eqb-false, eq-eqb, ne-eqb, ltb-true, ltb-fals
 use lib.Dec.{eqb, ltb}
 use lib.ListN.{length, getD, set, length-set}
 use lib.Seq.{getD-set-same, getD-set-other}
-use Rattle.transit.specs.Columns.{Columns, columnsOf, withPlaces, PLACES}
+use Rattle.transit.specs.Columns.{Columns, columnsOf, withPlaces, PLACES, SLOTS}
 use Rattle.transit.specs.Index.{Index}
 use Rattle.base.specs.Lists.{select}
 use Rattle.transit.specs.Mail.{messagesIn, Mail, FirstRelabelled}
-use Rattle.transit.specs.Message.{placeNumber, picks, relabelled}
+use Rattle.transit.specs.Message.{placeNumber, picks, relabelled, ranks, cells}
 use Rattle.transit.specs.Search.{Walked, Reached}
 use Rattle.transit.specs.Slots.{pairOf, messageAt}
 use Rattle.transit.specs.Unread.{firstTo, head}
@@ -31,7 +31,7 @@ use Rattle.transit.specs.Laws.Order.{place-below-four}
 use Rattle.transit.specs.Laws.Places.{picks-pair}
 use Rattle.base.specs.Laws.Tests.{by-test}
 
-module _ {c : Columns} (x : Index c) (p n : ℕ) (small : p < 256) where
+module _ {c : Columns} (x : Index c) (p n : ℕ) (small : p < cells) where
   -- A walk begins at the pair's first slot.
   pub walk-first : Walked c p n (getD (c .first) p 0)
   walk-first = record {
@@ -40,7 +40,7 @@ module _ {c : Columns} (x : Index c) (p n : ℕ) (small : p < 256) where
     none = λ k h mine. absurd (x .firsts p small .apart k (omega arith) h mine);
   }
 
-  module _ {at : ℕ} (w : Walked c p n at) (inside : at < 2048) where
+  module _ {at : ℕ} (w : Walked c p n at) (inside : at < SLOTS) where
     -- A link leads on.
     pub walk-on : at < getD (c .next) at 0
     walk-on = x .nexts p at small inside (w .own inside) .past
@@ -65,13 +65,13 @@ module _ {c : Columns} (x : Index c) (p n : ℕ) (small : p < 256) where
     walk-there is = record { walked = w; there = λ _. is }
 
   -- It ends at 2,048.
-  pub walk-over : {at : ℕ} → Walked c p n at → 2048 ≤ at → Reached c p n at
+  pub walk-over : {at : ℕ} → Walked c p n at → SLOTS ≤ at → Reached c p n at
   walk-over w end = record { walked = w; there = λ h. absurd (omega arith) }
 
-module _ {s v : List ℕ} (d : Mail s v) (a b : Rank) (small-a : a .0 < 16) (small-b : b .0 < 16) (place : Place) {at : ℕ}
+module _ {s v : List ℕ} (d : Mail s v) (a b : Rank) (small-a : a .0 < ranks) (small-b : b .0 < ranks) (place : Place) {at : ℕ}
     (r : Reached (columnsOf s) (pairOf a b) (placeNumber place) at) where
   -- A live slot before the one reached is not selected.
-  others : (k : ℕ) → k < at → getD (columnsOf s .pairs) k 0 < 256
+  others : (k : ℕ) → k < at → getD (columnsOf s .pairs) k 0 < cells
       → picks (BetweenAt a b place) (messageAt (columnsOf s .places) v (0 + k) (getD (columnsOf s .pairs) k 0)) ≡ false
   others k h live =
       let c = columnsOf s in
@@ -84,15 +84,15 @@ module _ {s v : List ℕ} (d : Mail s v) (a b : Rank) (small-a : a .0 < 16) (sma
       (λ e. rw e))
 
   -- Where the walk came to the end, nothing is selected.
-  pub search-nothing : 2048 ≤ at → select (picks (BetweenAt a b place)) (messagesIn s v) ≡ []
+  pub search-nothing : SLOTS ≤ at → select (picks (BetweenAt a b place)) (messagesIn s v) ≡ []
   unfolding messagesIn
   search-nothing end =
       held-none (messageAt (columnsOf s .places) v) (picks (BetweenAt a b place)) 0 (columnsOf s .pairs)
       (λ k h live. others k (omega (arith, column-sizes s (d .slots-long) .pairs-long)) live)
 
-  module _ (inside : at < 2048) where
+  module _ (inside : at < SLOTS) where
     -- The slot reached is live.
-    pub search-live : getD (columnsOf s .pairs) at 0 < 256
+    pub search-live : getD (columnsOf s .pairs) at 0 < cells
     search-live = omega (arith, r .walked .own inside, pair-small a b small-a small-b)
 
     -- Its message is selected.
@@ -164,7 +164,7 @@ module _ {s v : List ℕ} (d : Mail s v) (a b : Rank) (small-a : a .0 < 16) (sma
           }
 
   -- Where nothing is selected, nothing changes.
-  pub first-unchanged : (target : Place) → 2048 ≤ at → FirstRelabelled (BetweenAt a b place) target s v s
+  pub first-unchanged : (target : Place) → SLOTS ≤ at → FirstRelabelled (BetweenAt a b place) target s v s
   first-unchanged target end = record {
     kept = d;
     same = sym (changeFirst-unmet (picks (BetweenAt a b place)) (relabelled target) (messagesIn s v) (search-nothing end));

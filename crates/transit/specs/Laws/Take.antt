@@ -8,10 +8,11 @@ use borrow.Author.Tests.{eqb-true, eqb-false, eq-eqb, ne-eqb, ltb-true, ltb-fals
 use lib.Dec.{eqb, ltb}
 use lib.ListN.{length, getD, set}
 use lib.Seq.{getD-set-same, getD-set-other}
-use Rattle.transit.specs.Columns.{Columns}
+use Rattle.transit.specs.Columns.{Columns, SLOTS, DEAD}
 use Rattle.transit.specs.Index.{Next, Last, slotsOf, Index, Sizes}
 use Rattle.transit.specs.Laws.Links.{slots-set, read-by, next-other, slots-other}
 use Rattle.base.specs.Laws.Tests.{by-test}
+use Rattle.transit.specs.Message.{cells}
 
 -- the first slot of a pair
 abbrev pub front : Columns → ℕ → ℕ
@@ -24,7 +25,7 @@ second c p = getD (c .next) (front c p) 0
 -- the columns with a pair's first slot dead
 abbrev pub taken : Columns → ℕ → Columns
 taken c p = record {
-  pairs = set (c .pairs) (front c p) 256;
+  pairs = set (c .pairs) (front c p) DEAD;
   places = c .places;
   next = c .next;
   first = set (c .first) p (second c p);
@@ -34,7 +35,7 @@ taken c p = record {
   unread = c .unread - 1;
 }
 
-module _ {c : Columns} (x : Index c) (z : Sizes c) (p : ℕ) (small : p < 256) (some : front c p < 2048) where
+module _ {c : Columns} (x : Index c) (z : Sizes c) (p : ℕ) (small : p < cells) (some : front c p < SLOTS) where
   -- The slot is of the pair.
   taken-own : getD (c .pairs) (front c p) 0 ≡ p
   taken-own = x .firsts p small .here some
@@ -52,16 +53,16 @@ module _ {c : Columns} (x : Index c) (z : Sizes c) (p : ℕ) (small : p < 256) (
   behind = x .nexts p (front c p) small some taken-own
 
   -- Every other slot is of the pair that it was.
-  other-slot : (k : ℕ) → k ≢ front c p → getD (set (c .pairs) (front c p) 256) k 0 ≡ getD (c .pairs) k 0
-  other-slot k ne = getD-set-other (c .pairs) (front c p) k 256 0 ne
+  other-slot : (k : ℕ) → k ≢ front c p → getD (set (c .pairs) (front c p) DEAD) k 0 ≡ getD (c .pairs) k 0
+  other-slot k ne = getD-set-other (c .pairs) (front c p) k DEAD 0 ne
 
   -- The slot behind it is the first.
-  take-front : Next (set (c .pairs) (front c p) 256) p 0 (second c p)
+  take-front : Next (set (c .pairs) (front c p) DEAD) p 0 (second c p)
   take-front = record {
     past = omega arith;
     within = behind .within;
     apart = λ k a b.
-        read-by (c .pairs) (front c p) 256 taken-fits (λ y. y ≢ p) k
+        read-by (c .pairs) (front c p) DEAD taken-fits (λ y. y ≢ p) k
         (λ _ e. omega (arith, e))
         (λ ne. by-test (ltb k (front c p))
         (λ e. x .firsts p small .apart k a (ltb-true k (front c p) e))
@@ -70,24 +71,24 @@ module _ {c : Columns} (x : Index c) (z : Sizes c) (p : ℕ) (small : p < 256) (
   }
 
   -- Each pair's first slot.
-  take-first : (q : ℕ) → q < 256 → Next (set (c .pairs) (front c p) 256) q 0 (getD (set (c .first) p (second c p)) q 0)
+  take-first : (q : ℕ) → q < cells → Next (set (c .pairs) (front c p) DEAD) q 0 (getD (set (c .first) p (second c p)) q 0)
   take-first q b =
       by-test (eqb q p)
       (λ e. rw (eqb-true q p e, getD-set-same (c .first) p (second c p) 0 (omega (arith, z .first-long))) take-front)
       (λ e.
       let h = eqb-false q p e in
       rw (getD-set-other (c .first) p q (second c p) 0 h)
-      (next-other (c .pairs) (front c p) 256 taken-fits q 0 (front c q) (was-own q h) (λ a. omega (arith, a)) (x .firsts q b)))
+      (next-other (c .pairs) (front c p) DEAD taken-fits q 0 (front c q) (was-own q h) (λ a. omega (arith, a)) (x .firsts q b)))
 
   -- No live slot is the one that died.
-  alive : (q i : ℕ) → q < 256 → getD (set (c .pairs) (front c p) 256) i 0 ≡ q → i ≢ front c p
+  alive : (q i : ℕ) → q < cells → getD (set (c .pairs) (front c p) DEAD) i 0 ≡ q → i ≢ front c p
   alive q i b own e =
-      let dead : getD (set (c .pairs) (front c p) 256) i 0 ≡ 256 = rw (e, getD-set-same (c .pairs) (front c p) 256 0 taken-fits) in
+      let dead : getD (set (c .pairs) (front c p) DEAD) i 0 ≡ DEAD = rw (e, getD-set-same (c .pairs) (front c p) DEAD 0 taken-fits) in
       omega (arith, own)
 
   -- Each live slot's next.
-  take-next : (q i : ℕ) → q < 256 → i < 2048 → getD (set (c .pairs) (front c p) 256) i 0 ≡ q
-      → Next (set (c .pairs) (front c p) 256) q (suc i) (getD (c .next) i 0)
+  take-next : (q i : ℕ) → q < cells → i < SLOTS → getD (set (c .pairs) (front c p) DEAD) i 0 ≡ q
+      → Next (set (c .pairs) (front c p) DEAD) q (suc i) (getD (c .next) i 0)
   take-next q i b ib own =
       let ne = alive q i b own in
       let was : getD (c .pairs) i 0 ≡ q = sym (other-slot i ne) ∙ own in
@@ -103,21 +104,21 @@ module _ {c : Columns} (x : Index c) (z : Sizes c) (p : ℕ) (small : p < 256) (
         past = n .past;
         within = n .within;
         apart = λ k l h.
-            read-by (c .pairs) (front c p) 256 taken-fits (λ y. y ≢ q) k (λ _ d. omega (arith, d)) (λ _. n .apart k l h);
+            read-by (c .pairs) (front c p) DEAD taken-fits (λ y. y ≢ q) k (λ _ d. omega (arith, d)) (λ _. n .apart k l h);
         here = λ h. other-slot (getD (c .next) i 0) (λ d. omega (arith, d, n .past)) ∙ n .here h;
       })
       (λ e.
-      next-other (c .pairs) (front c p) 256 taken-fits q (suc i) (getD (c .next) i 0)
+      next-other (c .pairs) (front c p) DEAD taken-fits q (suc i) (getD (c .next) i 0)
       (was-own q (eqb-false q p e)) (λ a. omega (arith, a)) n)
 
   -- Each pair's last slot.
-  take-last : (q : ℕ) → q < 256 → getD (set (c .first) p (second c p)) q 0 < 2048
-      → Last (set (c .pairs) (front c p) 256) (c .next) q (getD (c .last) q 0)
+  take-last : (q : ℕ) → q < cells → getD (set (c .first) p (second c p)) q 0 < SLOTS
+      → Last (set (c .pairs) (front c p) DEAD) (c .next) q (getD (c .last) q 0)
   take-last q b left =
       by-test (eqb q p)
       (λ e.
       let h = eqb-true q p e in
-      let more : second c p < 2048 =
+      let more : second c p < SLOTS =
       rw (h, getD-set-same (c .first) p (second c p) 0 (omega (arith, z .first-long))) at left in
       let l = x .lasts p small some in
       let ne : getD (c .last) p 0 ≢ front c p = (λ a. omega (arith, ap (λ (k : ℕ). getD (c .next) k 0) a, l .over)) in
@@ -129,14 +130,14 @@ module _ {c : Columns} (x : Index c) (z : Sizes c) (p : ℕ) (small : p < 256) (
       record { within = l .within; own = other-slot (getD (c .last) q 0) ne ∙ l .own; over = l .over })
 
   -- The pair has one fewer.
-  one-less : slotsOf p (set (c .pairs) (front c p) 256) + 1 ≡ slotsOf p (c .pairs)
+  one-less : slotsOf p (set (c .pairs) (front c p) DEAD) + 1 ≡ slotsOf p (c .pairs)
   one-less =
-      let lost = slots-set p (c .pairs) (front c p) 256 taken-fits in
-      omega (arith, rw (eq-eqb (getD (c .pairs) (front c p) 0) p taken-own, ne-eqb 256 p (λ a. omega (arith, a))) at lost)
+      let lost = slots-set p (c .pairs) (front c p) DEAD taken-fits in
+      omega (arith, rw (eq-eqb (getD (c .pairs) (front c p) 0) p taken-own, ne-eqb DEAD p (λ a. omega (arith, a))) at lost)
 
   -- Each pair's count.
-  take-count : (q : ℕ) → q < 256
-      → getD (set (c .count) p (getD (c .count) p 0 - 1)) q 0 ≡ slotsOf q (set (c .pairs) (front c p) 256)
+  take-count : (q : ℕ) → q < cells
+      → getD (set (c .count) p (getD (c .count) p 0 - 1)) q 0 ≡ slotsOf q (set (c .pairs) (front c p) DEAD)
   take-count q b =
       let less = getD (c .count) p 0 - 1 in
       by-test (eqb q p)
@@ -147,7 +148,7 @@ module _ {c : Columns} (x : Index c) (z : Sizes c) (p : ℕ) (small : p < 256) (
       let h = eqb-false q p e in
       rw (
         getD-set-other (c .count) p q less 0 h,
-        slots-other (c .pairs) (front c p) 256 taken-fits q (was-own q h) (λ a. omega (arith, a)),
+        slots-other (c .pairs) (front c p) DEAD taken-fits q (was-own q h) (λ a. omega (arith, a)),
       )
       (x .counts q b))
 
@@ -159,5 +160,5 @@ module _ {c : Columns} (x : Index c) (z : Sizes c) (p : ℕ) (small : p < 256) (
     lasts = take-last;
     counts = take-count;
     dead = λ k a b.
-        read-by (c .pairs) (front c p) 256 taken-fits (λ y. y ≡ 256) k (λ _. refl) (λ _. x .dead k a b);
+        read-by (c .pairs) (front c p) DEAD taken-fits (λ y. y ≡ DEAD) k (λ _. refl) (λ _. x .dead k a b);
   }

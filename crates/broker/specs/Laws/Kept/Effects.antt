@@ -6,7 +6,7 @@ use Prim.Native.Nat.{ℕ, _+_, _<_}
 use borrow.Author.Tests.{not-true, not-false}
 use lib.ListN.{length, length-set, set}
 use Rattle.base.specs.Laws.Tests.{both, both-left, both-right, not-both, parts}
-use Rattle.transit.specs.Message.{sameRank}
+use Rattle.transit.specs.Message.{sameRank, ranks, cells}
 use Rattle.transit.specs.declared.Rank.{Rank}
 use Rattle.broker.specs.State.{
   connect,
@@ -120,14 +120,14 @@ module _ (s : State) (p q : Rank) where
       at true = simp length-set
       at false = refl
 
-  withdraw-status : length (s .processes) ≡ 16 → p .0 < 16 → (x : Rank) → status (withdraw p q s) x ≡ status s x
+  withdraw-status : length (s .processes) ≡ ranks → p .0 < ranks → (x : Rank) → status (withdraw p q s) x ≡ status s x
   withdraw-status n hp x = at (asksFor q (request s p))
     where
       at : (t : Bool) → status (cond t (withRequest p Absent s) s) x ≡ status s x
       at true = status-with-request s p x Absent n hp
       at false = refl
 
-  withdraw-asks : length (s .processes) ≡ 16 → p .0 < 16 → (x y : Rank) → asksFor y (request (withdraw p q s) x) ≡ cond (sameRank x p && sameRank y q) false (asksFor y (request s x))
+  withdraw-asks : length (s .processes) ≡ ranks → p .0 < ranks → (x y : Rank) → asksFor y (request (withdraw p q s) x) ≡ cond (sameRank x p && sameRank y q) false (asksFor y (request s x))
   withdraw-asks n hp x y = at (asksFor q (request s p)) (sameRank x p) (sameRank y q) refl refl refl
     where
       gone : sameRank x p ≡ true → request (withRequest p Absent s) x ≡ Absent
@@ -142,10 +142,10 @@ module _ (s : State) (p q : Rank) where
       at false false j g h e = refl
 
 module _ (s : State) (f : Facts s) where
-  long : length (s .processes) ≡ 16
+  long : length (s .processes) ≡ ranks
   long = f .shape .processes-long
 
-  linked : length (s .links) ≡ 256
+  linked : length (s .links) ≡ cells
   linked = f .shape .links-long
 
   module _ (r : Rank) (h : ℕ) (k : StartFits s r h) where
@@ -199,7 +199,7 @@ module _ (s : State) (f : Facts s) where
         }
 
   -- a's call is put anew: to b, or to nobody
-  module _ (a b : Rank) (ha : a .0 < 16) (q : Request) where
+  module _ (a b : Rank) (ha : a .0 < ranks) (q : Request) where
     -- every other call stays, where a's goes to nobody but b before and after
     reasked : (s₀ : State) → s₀ .processes ≡ s .processes → s₀ .links ≡ s .links → ((y : Rank) → sameRank y b ≡ false → asksFor y q ≡ asksFor y (request s a)) → (x y : Rank) → side (withRequest a q s₀) x y ≡ byRole (λ x y. askAs (asksFor b q) x) same same (roleBetween a b x y) (side s x y) (side s y x)
     reasked s₀ procs links other x y = at (sameRank x a) (sameRank y b) (sameRank x b && sameRank y a) refl refl stood asked
@@ -307,13 +307,13 @@ module _ (s : State) (f : Facts s) where
         at false g = refl
 
   module _ (a b : Rank) (k : PartFits s a b) where
-    part-connection : (x y : Rank) → y .0 < 16 → connection (part a b s .state) x y ≡ cond (sameRank x b && sameRank y a) Closed (cond (sameRank x a && sameRank y b) Closed (connection s x y))
+    part-connection : (x y : Rank) → y .0 < ranks → connection (part a b s .state) x y ≡ cond (sameRank x b && sameRank y a) Closed (cond (sameRank x a && sameRank y b) Closed (connection s x y))
     unfolding part
     part-connection x y hy =
         connect-connection (connect a b Closed (s .links)) b a (connect-long (s .links) a b Closed linked) (k .two .second) (k .two .first) x y hy Closed ∙
         ap (cond (sameRank x b && sameRank y a) Closed) (connect-connection (s .links) a b linked (k .two .first) (k .two .second) x y hy Closed)
 
-    part-backlog : (x y : Rank) → y .0 < 16 → backlog (part a b s .state) x y ≡ backlog s x y
+    part-backlog : (x y : Rank) → y .0 < ranks → backlog (part a b s .state) x y ≡ backlog s x y
     unfolding part
     part-backlog x y hy =
         connect-backlog (connect a b Closed (s .links)) b a (connect-long (s .links) a b Closed linked) (k .two .second) (k .two .first) x y hy Closed ∙
@@ -359,21 +359,21 @@ module _ (s : State) (f : Facts s) where
     unfolding there uncalled lined
     there-unread = withdraw-unread uncalled b a ∙ withdraw-unread lined a b
 
-    there-connection : (x y : Rank) → y .0 < 16 → connection there x y ≡ cond (sameRank x b && sameRank y a) Open (cond (sameRank x a && sameRank y b) Open (connection s x y))
+    there-connection : (x y : Rank) → y .0 < ranks → connection there x y ≡ cond (sameRank x b && sameRank y a) Open (cond (sameRank x a && sameRank y b) Open (connection s x y))
     unfolding lined
     there-connection x y hy =
         ap (λ (ls : List Link). linkAt ls x y .connection) there-links ∙
         connect-connection (connect a b Open (s .links)) b a (connect-long (s .links) a b Open linked) (k .two .second) (k .two .first) x y hy Open ∙
         ap (cond (sameRank x b && sameRank y a) Open) (connect-connection (s .links) a b linked (k .two .first) (k .two .second) x y hy Open)
 
-    there-backlog : (x y : Rank) → y .0 < 16 → backlog there x y ≡ backlog s x y
+    there-backlog : (x y : Rank) → y .0 < ranks → backlog there x y ≡ backlog s x y
     unfolding lined
     there-backlog x y hy =
         ap (λ (ls : List Link). linkAt ls x y .backlog) there-links ∙
         connect-backlog (connect a b Open (s .links)) b a (connect-long (s .links) a b Open linked) (k .two .second) (k .two .first) x y hy Open ∙
         connect-backlog (s .links) a b linked (k .two .first) (k .two .second) x y hy Open
 
-    uncalled-long : length (uncalled .processes) ≡ 16
+    uncalled-long : length (uncalled .processes) ≡ ranks
     unfolding uncalled lined
     uncalled-long = withdraw-long lined a b ∙ long
 
@@ -411,13 +411,13 @@ module _ (s : State) (f : Facts s) where
         (f .pairs .nothing-with-self x hx)
 
   module _ (b r : Rank) (k : HeedFits s b r) where
-    heed-connection : (x y : Rank) → y .0 < 16 → connection (heed b r s .state) x y ≡ cond (sameRank x b && sameRank y r) Closed (connection s x y)
+    heed-connection : (x y : Rank) → y .0 < ranks → connection (heed b r s .state) x y ≡ cond (sameRank x b && sameRank y r) Closed (connection s x y)
     unfolding heed
     heed-connection x y hy =
         await-connection (connect b r Closed (s .links)) r b (connect-long (s .links) b r Closed linked) (k .two .second) (k .two .first) x y hy Marked ∙
         connect-connection (s .links) b r linked (k .two .first) (k .two .second) x y hy Closed
 
-    heed-backlog : (x y : Rank) → y .0 < 16 → backlog (heed b r s .state) x y ≡ cond (sameRank x r && sameRank y b) Marked (backlog s x y)
+    heed-backlog : (x y : Rank) → y .0 < ranks → backlog (heed b r s .state) x y ≡ cond (sameRank x r && sameRank y b) Marked (backlog s x y)
     unfolding heed
     heed-backlog x y hy =
         await-backlog (connect b r Closed (s .links)) r b (connect-long (s .links) b r Closed linked) (k .two .second) (k .two .first) x y hy Marked ∙
@@ -448,11 +448,11 @@ module _ (s : State) (f : Facts s) where
     cleared : State
     cleared = withLinks (await r p Clear (s .links)) s
 
-    clear-connection : (x y : Rank) → y .0 < 16 → connection cleared x y ≡ connection s x y
+    clear-connection : (x y : Rank) → y .0 < ranks → connection cleared x y ≡ connection s x y
     unfolding cleared
     clear-connection x y hy = await-connection (s .links) r p linked (k .two .first) (k .two .second) x y hy Clear
 
-    clear-backlog : (x y : Rank) → y .0 < 16 → backlog cleared x y ≡ cond (sameRank x r && sameRank y p) Clear (backlog s x y)
+    clear-backlog : (x y : Rank) → y .0 < ranks → backlog cleared x y ≡ cond (sameRank x r && sameRank y p) Clear (backlog s x y)
     unfolding cleared
     clear-backlog x y hy = await-backlog (s .links) r p linked (k .two .first) (k .two .second) x y hy Clear
 
@@ -508,7 +508,7 @@ module _ (s : State) (f : Facts s) where
     unfolding move
     move-links = refl
 
-    move-side : (a b : Rank) → a .0 < 16 → b .0 < 16 → sameRank a b ≡ false → side (move r h s .state) a b ≡ moving .anew (roleOf r a b) (side s a b) (side s b a)
+    move-side : (a b : Rank) → a .0 < ranks → b .0 < ranks → sameRank a b ≡ false → side (move r h s .state) a b ≡ moving .anew (roleOf r a b) (side s a b) (side s b a)
     move-side a b ha hb d = at (sameRank a r) (sameRank b r) (move-status a) (ap (λ (ls : List Link). linkAt ls a b) move-links ∙ leaveAll-at r (k .one .in-range) (s .links) linked own-closed a b ha hb d)
       where
         at : (p q : Bool) → status (move r h s .state) a ≡ cond p t (status s a) → linkAt (move r h s .state .links) a b ≡ byRole (leftBy (connection s a b) (linkAt (s .links) a b)) (facedBy (connection s b a) (linkAt (s .links) a b)) (linkAt (s .links) a b) (cond p forward (cond q backward outside)) → side (move r h s .state) a b ≡ moving .anew (cond p forward (cond q backward outside)) (side s a b) (side s b a)

@@ -11,7 +11,7 @@ use lib.ListN.{getD, set}
 use Rattle.base.specs.Laws.Tests.{both, both-right, chosen, first-wider}
 use Rattle.base.specs.Lists.{every}
 use Rattle.base.specs.Laws.Lists.{every-wider}
-use Rattle.transit.specs.Message.{sameRank, isRank}
+use Rattle.transit.specs.Message.{sameRank, isRank, ranks, cells}
 use Rattle.transit.specs.Unread.{Unread}
 use Rattle.transit.specs.declared.Rank.{Rank}
 use Rattle.broker.specs.Connect.{call, route, part, withdraw}
@@ -68,19 +68,19 @@ names-elsewhere ls u n =
 
 -- what a rank's new standing has to be in a state whose names are sound, and what the tables then have to say of the rank
 record Stands (s : State) (r : Rank) (t : Status) : Type 0 where
-  in-range : r .0 < 16
+  in-range : r .0 < ranks
   started : isStarted t ≡ true
   drawn : every (isDrawn s) (vmidsOf t) ≡ true
   alone : distinct (processesOf t) ≡ true
-  apart : (b : Rank) → b .0 < 16 → sameRank b r ≡ false → noneShared (processesOf t) (processesOf (status s b)) ≡ true
+  apart : (b : Rank) → b .0 < ranks → sameRank b r ≡ false → noneShared (processesOf t) (processesOf (status s b)) ≡ true
 
 record Tells (s : State) (r : Rank) (ls : List Vmid) : Type 0 where
-  of-it : (a : Rank) → a .0 < 16 → isDrawn s (getD ls (cell a r) unknown) ≡ true
-  of-others : (a b : Rank) → b .0 < 16 → sameRank b r ≡ false → getD ls (cell a b) unknown ≡ location s a b
+  of-it : (a : Rank) → a .0 < ranks → isDrawn s (getD ls (cell a r) unknown) ≡ true
+  of-others : (a b : Rank) → b .0 < ranks → sameRank b r ≡ false → getD ls (cell a b) unknown ≡ location s a b
 
 module _ {s : State} (f : Shape s) (n : Names s) where
   -- a call to a rank in range, posted to a vmid that is drawn
-  names-with-request : (r : Rank) (q : Request) → r .0 < 16 → ofCall isRank (isDrawn s) q ≡ true → Names (withRequest r q s)
+  names-with-request : (r : Rank) (q : Request) → r .0 < ranks → ofCall isRank (isDrawn s) q ≡ true → Names (withRequest r q s)
   names-with-request r q h e =
       record {
         numbers-in-range = n .numbers-in-range;
@@ -98,7 +98,7 @@ module _ {s : State} (f : Shape s) (n : Names s) where
       }
 
   -- a's entry for b, where b is started and the vmid is drawn
-  names-with-location : (a b : Rank) (v : Vmid) → a .0 < 16 → b .0 < 16 → isStarted (status s b) ≡ true → isDrawn s v ≡ true → Names (withLocations (set (s .locations) (cell a b) v) s)
+  names-with-location : (a b : Rank) (v : Vmid) → a .0 < ranks → b .0 < ranks → isStarted (status s b) ≡ true → isDrawn s v ≡ true → Names (withLocations (set (s .locations) (cell a b) v) s)
   names-with-location a b v ha hb started drawn =
       record {
         numbers-in-range = n .numbers-in-range;
@@ -140,7 +140,7 @@ module _ {s : State} (f : Shape s) (n : Names s) where
       still = still-drawn s h (f .drawn-long) host
 
   -- a host's next vmid is none of any rank's processes
-  next-unshared : (h : ℕ) (b : Rank) → b .0 < 16 → every (λ w. not (sameVmid (nextVmid s h) w)) (processesOf (status s b)) ≡ true
+  next-unshared : (h : ℕ) (b : Rank) → b .0 < ranks → every (λ w. not (sameVmid (nextVmid s h) w)) (processesOf (status s b)) ≡ true
   next-unshared h b hb =
       every-wider (isDrawn s) (λ w. not (sameVmid (nextVmid s h) w)) (next-apart s h) (processesOf (status s b))
       (processes-in (isDrawn s) (status s b) (n .vmids-drawn b hb))
@@ -181,20 +181,20 @@ module _ {s : State} (f : Shape s) (n : Names s) where
       separate a b x y = cond (sameRank a b) (distinct (processesOf x)) (noneShared (processesOf x) (processesOf y)) ≡ true
 
   -- of a started rank: its current end is drawn and so is what the tables say of it, and where it has not ended no other has its end
-  module _ (r : Rank) (in-range : r .0 < 16) (started : isStarted (status s r) ≡ true) where
+  module _ (r : Rank) (in-range : r .0 < ranks) (started : isStarted (status s r) ≡ true) where
     end-drawn : isDrawn s (endpoint (status s r)) ≡ true
     end-drawn = endpoint-in (isDrawn s) (status s r) started (n .vmids-drawn r in-range)
 
     as-told : Tells s r (s .locations)
     as-told = record { of-it = λ a ha. rw started at (n .tables-drawn a r ha in-range); of-others = λ a b hb e. refl }
 
-    end-unshared : isEnded (status s r) ≡ false → (b : Rank) → b .0 < 16 → sameRank b r ≡ false → every (λ w. not (sameVmid (endpoint (status s r)) w)) (processesOf (status s b)) ≡ true
+    end-unshared : isEnded (status s r) ≡ false → (b : Rank) → b .0 < ranks → sameRank b r ≡ false → every (λ w. not (sameVmid (endpoint (status s r)) w)) (processesOf (status s b)) ≡ true
     end-unshared live b hb e =
         endpoint-in (λ v. every (λ w. not (sameVmid v w)) (processesOf (status s b))) (status s r) started
         (rw (eqb-swap (r .0) (b .0), e, processes-all (status s r) live) at (n .vmids-apart r b in-range hb))
 
   -- a call that closes, if there is one
-  names-withdraw : (a b : Rank) → a .0 < 16 → Names (withdraw a b s)
+  names-withdraw : (a b : Rank) → a .0 < ranks → Names (withdraw a b s)
   names-withdraw a b ha =
       chosen Names (asksFor b (request s a)) (withRequest a Absent s) s (λ _. names-with-request a Absent ha refl) (λ _. n)
 
@@ -287,7 +287,7 @@ module _ {s : State} (f : Shape s) (n : Names s) where
         let first = k .two .first in
         let second = k .two .second in
         names-with-request f n a (Posted b (location s a b)) first
-        (both (lt-ltb (b .0) 16 second) (as-told f n b second (k .two .second-started) .of-it a first))
+        (both (lt-ltb (b .0) ranks second) (as-told f n b second (k .two .second-started) .of-it a first))
 
     names-route : RouteFits s a b → Names (route a b s .state)
     names-route k =
@@ -297,11 +297,11 @@ module _ {s : State} (f : Shape s) (n : Names s) where
         let v = endpoint (status s b) in
         let drawn = end-drawn f n b second started in
         let joined = shape-connect a b Open f in
-        let told = shape-with-locations _ (long-set 256 (s .locations) (cell a b) v (f .locations-long)) f in
+        let told = shape-with-locations _ (long-set cells (s .locations) (cell a b) v (f .locations-long)) f in
         route-cases Names a b s (names-with-request f n a Absent first refl)
         (names-withdraw (shape-withdraw a b joined) (names-withdraw joined (names-elsewhere _ _ n) a b first) b a second)
         (names-with-request told (names-with-location f n a b v first second started drawn) a (Posted b v) first
-        (both (lt-ltb (b .0) 16 second) drawn))
+        (both (lt-ltb (b .0) ranks second) drawn))
 
 -- every accepted record keeps the names sound
 pub names-kept : (named : Rank) (s : State) (r : Record) → Facts s → Passes s r → Names (apply named r s .state)

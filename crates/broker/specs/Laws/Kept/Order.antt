@@ -9,7 +9,7 @@ use borrow.Author.Tests.{lt-ltb, ltb-true, le-leb, lt-leb, leb-true, eqb-true, e
 use lib.Dec.{eqb, leb}
 use lib.ListN.{length, length-map}
 use Rattle.base.specs.Lists.{select, every, without, changeEach, neverFalls}
-use Rattle.transit.specs.Message.{placeNumber, number, samePlace, sameRank, at, to, between, relabelled, placeOrder, isRank}
+use Rattle.transit.specs.Message.{placeNumber, number, samePlace, sameRank, at, to, between, relabelled, placeOrder, isRank, ranks}
 use Rattle.transit.specs.Unread.{Unread, limit, counted, appended, head, firstSent, eachTo, relabelAll, relabelFirst, leave}
 use Rattle.base.specs.Laws.Lists.{
   every-always,
@@ -85,7 +85,7 @@ receiver-of a b m h = sameRank-eq (m .receiver) b (both-right (sameRank (m .send
 of-pair : (scope : Rank → Rank → Bool) (a b : Rank) (m : Message) → between a b m ≡ true → scope (m .sender) (m .receiver) ≡ scope a b
 of-pair scope a b m h = rw (sender-of a b m h, receiver-of a b m h)
 
--- the two ranks are a and b
+-- the two named-both are a and b
 abbrev pair : Rank → Rank → Rank → Rank → Bool
 pair a b x y = sameRank x a && sameRank y b
 
@@ -202,7 +202,7 @@ module _ (scope : Rank → Rank → Bool) (from onto : Place) where
   abbrev aside : Message → Bool
   aside m = not (scope (m .sender) (m .receiver)) || outside (placeNumber from) (placeNumber onto) (number m)
 
-  -- the number of a place afterwards, for two ranks in scope or not
+  -- the number of a place afterwards, for two named-both in scope or not
   abbrev moves : Rank → Rank → ℕ → ℕ
   moves a b n = shifted (scope a b) (placeNumber from) (placeNumber onto) n
 
@@ -339,7 +339,7 @@ module _ (s : State) (f : Facts s) where
   -- A send adds a message.
   send-keeps : (a b : Rank) (v : ℕ) → SendFits s a b → InOrder (appended (s .unread) (sentMessage a b v s) .unread)
   send-keeps a b v fits =
-      let name : isNamed (sentMessage a b v s) ≡ true = rw (lt-ltb (a .0) 16 (fits .two .first), lt-ltb (b .0) 16 (fits .two .second), fits .two .apart) in
+      let name : isNamed (sentMessage a b v s) ≡ true = rw (lt-ltb (a .0) ranks (fits .two .first), lt-ltb (b .0) ranks (fits .two .second), fits .two .apart) in
       rw (appends (s .unread) (sentMessage a b v s) (fits .room))
       (append-keeps (s .unread) facts-order (sentMessage a b v s) (fits .room) name (sent-last a b (fits .two) (connection s a b) refl))
 
@@ -374,14 +374,14 @@ module _ (s : State) (f : Facts s) where
       (messages s) (f .mail .places-fit)))
 
   -- A landing empties the mover's list of a rank that has nothing on the lane to the mover, since its awaits are clear.
-  land-keeps : (r : Rank) → ((p : Rank) → p .0 < 16 → isClear (backlog s r p) ≡ true) → InOrder (relabelAll (ToAt r SourceList) EndList (s .unread))
+  land-keeps : (r : Rank) → ((p : Rank) → p .0 < ranks → isClear (backlog s r p) ≡ true) → InOrder (relabelAll (ToAt r SourceList) EndList (s .unread))
   land-keeps r clear =
       rw (relabels (ToAt r SourceList) (s .unread) EndList)
       (relabel-keeps (onlyTo r) SourceList EndList (s .unread) facts-order
       (every-both isNamed (fitsPlace s) (aside (onlyTo r) SourceList EndList)
       (λ m name h.
-      let ranks = both-left (isRank (m .sender) && isRank (m .receiver)) (not (sameRank (m .sender) (m .receiver))) name in
-      let sender = ltb-true (m .sender .0) 16 (both-left (isRank (m .sender)) (isRank (m .receiver)) ranks) in
+      let named-both = both-left (isRank (m .sender) && isRank (m .receiver)) (not (sameRank (m .sender) (m .receiver))) name in
+      let sender = ltb-true (m .sender .0) ranks (both-left (isRank (m .sender)) (isRank (m .receiver)) named-both) in
       if-so (to r m) (outside 0 2 (number m)) λ is.
       off-lane (m .place)
       (rw (sameRank-eq (m .receiver) r is, clear (m .sender) sender) at (both-right (sourceFits s m) (laneFits s m) (source-and-lane s m h))))

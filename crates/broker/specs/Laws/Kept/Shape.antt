@@ -10,6 +10,7 @@ use Rattle.broker.specs.Connect.{call, part, connectBoth, withdraw}
 use Rattle.base.specs.Laws.Tests.{chosen}
 use Rattle.broker.specs.Laws.Cases.{route-cases, drain-cases}
 use Rattle.base.specs.Laws.Stores.{long-set}
+use Rattle.transit.specs.Message.{ranks, cells}
 use Rattle.broker.specs.Laws.Each.{announced-long}
 use Rattle.broker.specs.Laws.Ranks.{eachRank-keeps}
 use Rattle.broker.specs.Laws.Sound.{Shape}
@@ -31,17 +32,17 @@ use Rattle.broker.specs.declared.record.Record.the-variants.{Start, Call
 shape-with-process : {s : State} (r : Rank) (p : Process) → Shape s → Shape (withProcess r p s)
 shape-with-process {s} r p f =
     record {
-      processes-long = long-set 16 (s .processes) (r .0) p (f .processes-long);
+      processes-long = long-set ranks (s .processes) (r .0) p (f .processes-long);
       locations-long = f .locations-long;
       links-long = f .links-long;
       drawn-long = f .drawn-long;
     }
 
-pub shape-with-locations : {s : State} (ls : List Vmid) → length ls ≡ 256 → Shape s → Shape (withLocations ls s)
+pub shape-with-locations : {s : State} (ls : List Vmid) → length ls ≡ cells → Shape s → Shape (withLocations ls s)
 shape-with-locations ls e f =
     record { processes-long = f .processes-long; locations-long = e; links-long = f .links-long; drawn-long = f .drawn-long }
 
-shape-with-links : {s : State} (ls : List Link) → length ls ≡ 256 → Shape s → Shape (withLinks ls s)
+shape-with-links : {s : State} (ls : List Link) → length ls ≡ cells → Shape s → Shape (withLinks ls s)
 shape-with-links ls e f =
     record
     { processes-long = f .processes-long; locations-long = f .locations-long; links-long = e; drawn-long = f .drawn-long }
@@ -65,15 +66,15 @@ shape-with-unread u f =
     }
 
 -- r's leaving keeps the length of the links
-leaveOver-long : (c : Connection) (r p : Rank) (ls : List Link) → length ls ≡ 256 → length (leaveOver c r p ls) ≡ 256
+leaveOver-long : (c : Connection) (r p : Rank) (ls : List Link) → length ls ≡ cells → length (leaveOver c r p ls) ≡ cells
 leaveOver-long Closed r p ls e = e
 leaveOver-long Open r p ls e = rw (length-set, length-set) e
 leaveOver-long Closing r p ls e = rw (length-set, length-set) e
 
-leaveAll-long : (r : Rank) (ls : List Link) → length ls ≡ 256 → length (leaveAll r ls) ≡ 256
+leaveAll-long : (r : Rank) (ls : List Link) → length ls ≡ cells → length (leaveAll r ls) ≡ cells
 unfolding leaveAll
 leaveAll-long r ls e =
-    eachRank-keeps (λ (l : List Link). length l ≡ 256) (leave r) ls e
+    eachRank-keeps (λ (l : List Link). length l ≡ cells) (leave r) ls e
     (λ p l. leaveOver-long (linkAt l r p .connection) r p l)
 
 pub shape-connect : {s : State} (a b : Rank) (c : Connection) → Shape s → Shape (connectBoth a b c s)

@@ -11,7 +11,7 @@ use Rattle.transit.specs.Laws.Operations.{appends, relabels, relabels-first, re
 use Rattle.base.specs.Laws.Lists.{every-always, every-append, every-changeFirst, every-without, every-wider}
 use Rattle.base.specs.Laws.Tests.{both, both-left, both-right, not-both, true-of}
 use Rattle.base.specs.Lists.{every, changeEach, changeFirst, select, tally}
-use Rattle.transit.specs.Message.{sameRank, relabelled, picks, at as at-place, between, samePlace, to, placeOrder}
+use Rattle.transit.specs.Message.{sameRank, relabelled, picks, at as at-place, between, samePlace, to, placeOrder, ranks}
 use Rattle.transit.specs.Unread.{Unread, limit, relabelFirst, firstSent, appended, removed, head, leave}
 use Rattle.transit.specs.declared.Found.{Found}
 use Rattle.transit.specs.declared.Found.the-variants.{First, Nothing}
@@ -173,7 +173,7 @@ module _ (s s' : State) (c : Change) (role : Rank → Rank → Role) (kept : T (
   fit-anew : (m : Message) → known s m ≡ true → c .askedOf (role (m .receiver) (m .sender)) (m .place) ≡ true → fits s' (placedAnew m) ≡ true
   fit-anew m h a = message-stays s s' c role kept (f .pairs) e m (both-left (isNamed m) (fits s m) h) (both-right (isNamed m) (fits s m) h) a
 
-  views-of : ((r : Rank) → r .0 < 16 → nothingWith s' r ≡ true) → (g : Message → Message) → messages s' ≡ map g (messages s) → ((m : Message) → g m ≡ placedAnew m) → every (λ m. c .askedOf (role (m .receiver) (m .sender)) (m .place)) (messages s) ≡ true → Views s'
+  views-of : ((r : Rank) → r .0 < ranks → nothingWith s' r ≡ true) → (g : Message → Message) → messages s' ≡ map g (messages s) → ((m : Message) → g m ≡ placedAnew m) → every (λ m. c .askedOf (role (m .receiver) (m .sender)) (m .place)) (messages s) ≡ true → Views s'
   views-of self g list same asked =
       record {
         pairs = pairs-stay s s' c role kept (f .pairs) e self;
@@ -181,13 +181,13 @@ module _ (s s' : State) (c : Change) (role : Rank → Rank → Role) (kept : T (
       }
 
   -- the same, where no message changes
-  views-still : ((r : Rank) → r .0 < 16 → nothingWith s' r ≡ true) → messages s' ≡ messages s → ((k : Role) (x : Place) → c .place k x ≡ x) → every (λ m. c .askedOf (role (m .receiver) (m .sender)) (m .place)) (messages s) ≡ true → Views s'
+  views-still : ((r : Rank) → r .0 < ranks → nothingWith s' r ≡ true) → messages s' ≡ messages s → ((k : Role) (x : Place) → c .place k x ≡ x) → every (λ m. c .askedOf (role (m .receiver) (m .sender)) (m .place)) (messages s) ≡ true → Views s'
   views-still self list none asked =
       views-of self (λ m. m) (list ∙ sym (map-still (messages s))) (λ m. ap (λ (x : Place). relabelled x m) (sym (none (role (m .receiver) (m .sender)) (m .place)))) asked
 
 -- Each kind.
 module _ (s : State) (f : Facts s) where
-  self : (r : Rank) → r .0 < 16 → nothingWith s r ≡ true
+  self : (r : Rank) → r .0 < ranks → nothingWith s r ≡ true
   self = f .pairs .nothing-with-self
 
   views-start : (r : Rank) (h : ℕ) → Accepted.StartFits s r h → Views (start r h s .state)

@@ -3,29 +3,8 @@ use borrow.Author.Needs.{needs}
 use Rattle.depart.proofs.leaving.leave.Statement.{statement}
 use Rattle.depart.proofs.leaving.leave.Tie as tie
 
-link-between-requires : tie.Need-link-between-requires
-link-between-requires c κs = search needs
-
 enum-told : tie.Need-enum-told
 enum-told c = search needs
-
-enum-told-2 : tie.Need-enum-told-2
-enum-told-2 c = search needs
-
-set-link-requires : tie.Need-set-link-requires
-set-link-requires c κs = search needs
-
-connect-requires : tie.Need-connect-requires
-connect-requires c κs = search needs
-
-enum-told-3 : tie.Need-enum-told-3
-enum-told-3 c = search needs
-
-set-link-requires-2 : tie.Need-set-link-requires-2
-set-link-requires-2 c κs = search needs
-
-awaiting-requires : tie.Need-awaiting-requires
-awaiting-requires c κs = search needs
 
 returns : tie.Need-returns
 returns c =
@@ -62,16 +41,5 @@ returns-3 c =
 
 pub leave-spec : {M : Type 1} → statement M
 leave-spec =
-    tie.close
-    (tie.spec
-    link-between-requires
-    enum-told
-    enum-told-2
-    set-link-requires
-    connect-requires
-    enum-told-3
-    set-link-requires-2
-    awaiting-requires
-    returns
-    returns-2
-    returns-3)
+    tie.close (tie.spec (search needs) enum-told (search needs) (search needs) (search needs) (search needs)
+    (search needs) (search needs) returns returns-2 returns-3)

@@ -6,7 +6,7 @@ use native.Mathlib.Numerals.{add-one}
 use native.Mathlib.Omega.{arith}
 use borrow.Author.Needs.{needs}
 use Rattle.broker.specs.Migrate.{leave, leaveAll}
-use Rattle.transit.specs.Message.{rank}
+use Rattle.transit.specs.Message.{rank, ranks}
 use Rattle.broker.specs.Ranks.{eachRank}
 use Rattle.base.specs.Below.{eachBelow}
 use Rattle.broker.specs.State.{State, withLinks}
@@ -16,22 +16,16 @@ use Rattle.depart.proofs.leaving.leave_all.Tie as tie
 
 abbrev Inv-loop : tie.InvT-loop
 Inv-loop r roster₀ i₀ roster i =
-    (i ≤ 16) × Holds roster (withLinks (eachBelow i (λ k. leave r (rank k)) (ranksOf roster₀ .links)) (ranksOf roster₀))
+    (i ≤ ranks) × Holds roster (withLinks (eachBelow i (λ k. leave r (rank k)) (ranksOf roster₀ .links)) (ranksOf roster₀))
 
 abbrev μ-loop : tie.MeasureT-loop
-μ-loop r roster₀ i₀ roster i = 16 - i
+μ-loop r roster₀ i₀ roster i = ranks - i
 
 loop-holds : tie.Need-loop-holds Inv-loop μ-loop
 loop-holds c = (omega arith, record { long = c .pre; same = refl })
 
 leave-requires : tie.Need-leave-requires Inv-loop μ-loop
 leave-requires c κs = c .before .before .loop .inv .1 .long
-
-add-i : tie.Need-add-i Inv-loop μ-loop
-add-i c = search needs
-
-loop-less : tie.Need-loop-less Inv-loop μ-loop
-loop-less c = search needs
 
 loop-again : tie.Need-loop-again Inv-loop μ-loop
 loop-again c =
@@ -52,10 +46,9 @@ returns : tie.Need-returns Inv-loop μ-loop
 unfolding leaveAll eachRank
 returns c =
     let head = c .before in
-    let last : head .loop .i ≡ 16 = omega arith in
+    let last : head .loop .i ≡ ranks = omega arith in
     rw last at (head .loop .inv .1)
 
 pub leave-all-spec : {M : Type 1} → statement M
 leave-all-spec =
-    tie.close
-    (tie.spec Inv-loop μ-loop loop-holds leave-requires add-i loop-less loop-again returns)
+    tie.close (tie.spec Inv-loop μ-loop loop-holds leave-requires (search needs) (search needs) loop-again returns)

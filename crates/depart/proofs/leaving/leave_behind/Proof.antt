@@ -8,12 +8,6 @@ use Rattle.transit.specs.declared.Selection.the-variants.{ToAt}
 use Rattle.depart.proofs.leaving.leave_behind.Statement.{statement}
 use Rattle.depart.proofs.leaving.leave_behind.Tie as tie
 
-relabel-to-requires : tie.Need-relabel-to-requires
-relabel-to-requires c κs = search needs
-
-relabel-to-requires-2 : tie.Need-relabel-to-requires-2
-relabel-to-requires-2 c κs = search needs
-
 returns : tie.Need-returns
 returns c = λ contents m.
     let first = c .before .before in
@@ -26,4 +20,5 @@ returns c = λ contents m.
     }
 
 pub leave-behind-spec : {M : Type 1} → statement M
-leave-behind-spec = tie.close (tie.spec relabel-to-requires relabel-to-requires-2 returns)
+leave-behind-spec =
+    tie.close (tie.spec (search needs) (search needs) returns)

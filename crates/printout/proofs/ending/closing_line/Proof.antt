@@ -18,18 +18,6 @@ returns c =
     (sym (ap linesOf (closing-at-end (args .base) (args .rest .now) 0 (omega arith))))
     (at-most (omega arith) nothing)
 
-shared-slice-read-kind : tie.Need-shared-slice-read-kind
-shared-slice-read-kind c = search needs
-
-reason-of-requires : tie.Need-reason-of-requires
-reason-of-requires c κs = search needs
-
-refused-line-requires : tie.Need-refused-line-requires
-refused-line-requires c κs = search needs
-
-same-length : tie.Need-same-length
-same-length c = search needs
-
 returns-2 : tie.Need-returns-2
 returns-2 c =
     let line = c .before .before in
@@ -40,11 +28,4 @@ returns-2 c =
 
 pub closing-line-spec : {M : Type 1} → statement M
 closing-line-spec =
-    tie.close
-    (tie.spec
-    returns
-    shared-slice-read-kind
-    reason-of-requires
-    refused-line-requires
-    same-length
-    returns-2)
+    tie.close (tie.spec returns (search needs) (search needs) (search needs) (search needs) returns-2)

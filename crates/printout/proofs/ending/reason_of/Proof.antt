@@ -13,4 +13,5 @@ returns-3 : tie.Need-returns-3
 returns-3 c = rw (kind-between (c .before .before .args .kind) (c .before .if1 .left) (c .if2 .left))
 
 pub reason-of-spec : {M : Type 1} → statement M
-reason-of-spec = tie.close (tie.spec returns returns-2 returns-3)
+reason-of-spec =
+    tie.close (tie.spec returns returns-2 returns-3)

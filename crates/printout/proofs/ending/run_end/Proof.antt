@@ -4,15 +4,6 @@ use Rattle.printout.specs.Laws.Last.{and-then, said-of-any}
 use Rattle.printout.proofs.ending.run_end.Statement.{statement}
 use Rattle.printout.proofs.ending.run_end.Tie as tie
 
-closing-line-requires : tie.Need-closing-line-requires
-closing-line-requires c κs = search needs
-
-last-lines-requires : tie.Need-last-lines-requires
-last-lines-requires c κs = search needs
-
-same-length : tie.Need-same-length
-same-length c = search needs
-
 returns : tie.Need-returns
 returns c =
     let last = c .before .before in
@@ -20,4 +11,5 @@ returns c =
     and-then (said-of-any (closed .closing-line .ensures)) (last .last-lines .ensures)
 
 pub run-end-spec : {M : Type 1} → statement M
-run-end-spec = tie.close (tie.spec closing-line-requires last-lines-requires same-length returns)
+run-end-spec =
+    tie.close (tie.spec (search needs) (search needs) (search needs) returns)

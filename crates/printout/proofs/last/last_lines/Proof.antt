@@ -24,23 +24,11 @@ loop-holds c = (none-said, omega arith)
 lines-of-sender-requires : tie.Need-lines-of-sender-requires Inv-loop μ-loop
 lines-of-sender-requires c κs = (omega arith, omega arith)
 
-add-a : tie.Need-add-a Inv-loop μ-loop
-add-a c = search needs
-
-loop-less : tie.Need-loop-less Inv-loop μ-loop
-loop-less c = search needs
-
 loop-again : tie.Need-loop-again Inv-loop μ-loop
 loop-again c =
     let lines = c .before .before in
     let head = lines .before .before .before in
     (rw (add-one (head .loop .a)) (said-in (omega arith) (and-then (head .loop .inv .0) (lines .lines-of-sender .ensures))), omega arith)
-
-end-line-requires : tie.Need-end-line-requires Inv-loop μ-loop
-end-line-requires c κs = search needs
-
-same-length : tie.Need-same-length Inv-loop μ-loop
-same-length c = search needs
 
 returns : tie.Need-returns Inv-loop μ-loop
 unfolding pairLines
@@ -52,15 +40,5 @@ returns c =
 
 pub last-lines-spec : {M : Type 1} → statement M
 last-lines-spec =
-    tie.close
-    (tie.spec
-    Inv-loop
-    μ-loop
-    loop-holds
-    lines-of-sender-requires
-    add-a
-    loop-less
-    loop-again
-    end-line-requires
-    same-length
-    returns)
+    tie.close (tie.spec Inv-loop μ-loop loop-holds lines-of-sender-requires (search needs) (search needs) loop-again
+    (search needs) (search needs) returns)

@@ -11,9 +11,6 @@ use Rattle.lines.specs.Lines.{pairLine}
 use Rattle.printout.proofs.last.lines_of_pair.Statement.{statement}
 use Rattle.printout.proofs.last.lines_of_pair.Tie as tie
 
-unread-between-requires : tie.Need-unread-between-requires
-unread-between-requires c κs = search needs
-
 returns : tie.Need-returns
 returns c =
     let between = c .before in
@@ -25,36 +22,6 @@ returns c =
           no-line (messagesIn (args .slots .now) contents) (args .a) (args .b)
           (sym (between .unread-between .ensures contents held) ∙ c .if1 .taken);
     }
-
-count-at-requires : tie.Need-count-at-requires
-count-at-requires c κs = search needs
-
-count-at-requires-2 : tie.Need-count-at-requires-2
-count-at-requires-2 c κs = search needs
-
-count-at-requires-3 : tie.Need-count-at-requires-3
-count-at-requires-3 c κs = search needs
-
-count-at-requires-4 : tie.Need-count-at-requires-4
-count-at-requires-4 c κs = search needs
-
-cast-pair-line : tie.Need-cast-pair-line
-cast-pair-line c = search needs
-
-cast-pair-line-2 : tie.Need-cast-pair-line-2
-cast-pair-line-2 c = search needs
-
-cast-pair-line-3 : tie.Need-cast-pair-line-3
-cast-pair-line-3 c = search needs
-
-cast-pair-line-4 : tie.Need-cast-pair-line-4
-cast-pair-line-4 c = search needs
-
-pair-line-requires : tie.Need-pair-line-requires
-pair-line-requires c κs = search needs
-
-same-length : tie.Need-same-length
-same-length c = search needs
 
 returns-2 : tie.Need-returns-2
 returns-2 c =
@@ -84,18 +51,5 @@ returns-2 c =
 
 pub lines-of-pair-spec : {M : Type 1} → statement M
 lines-of-pair-spec =
-    tie.close
-    (tie.spec
-    unread-between-requires
-    returns
-    count-at-requires
-    count-at-requires-2
-    count-at-requires-3
-    count-at-requires-4
-    cast-pair-line
-    cast-pair-line-2
-    cast-pair-line-3
-    cast-pair-line-4
-    pair-line-requires
-    same-length
-    returns-2)
+    tie.close (tie.spec (search needs) returns (search needs) (search needs) (search needs) (search needs)
+    (search needs) (search needs) (search needs) (search needs) (search needs) (search needs) returns-2)

@@ -24,20 +24,11 @@ loop-holds c = (none-said, omega arith)
 lines-of-pair-requires : tie.Need-lines-of-pair-requires Inv-loop μ-loop
 lines-of-pair-requires c κs = ((omega arith, omega arith), omega arith)
 
-add-b : tie.Need-add-b Inv-loop μ-loop
-add-b c = search needs
-
-loop-less : tie.Need-loop-less Inv-loop μ-loop
-loop-less c = search needs
-
 loop-again : tie.Need-loop-again Inv-loop μ-loop
 loop-again c =
     let line = c .before .before in
     let head = line .before .before .before in
     (rw (add-one (head .loop .b)) (said-in (omega arith) (and-then (head .loop .inv .0) (line .lines-of-pair .ensures))), omega arith)
-
-same-length : tie.Need-same-length Inv-loop μ-loop
-same-length c = search needs
 
 returns : tie.Need-returns Inv-loop μ-loop
 returns c =
@@ -46,14 +37,5 @@ returns c =
 
 pub lines-of-sender-spec : {M : Type 1} → statement M
 lines-of-sender-spec =
-    tie.close
-    (tie.spec
-    Inv-loop
-    μ-loop
-    loop-holds
-    lines-of-pair-requires
-    add-b
-    loop-less
-    loop-again
-    same-length
-    returns)
+    tie.close (tie.spec Inv-loop μ-loop loop-holds lines-of-pair-requires (search needs) (search needs) loop-again
+    (search needs) returns)

@@ -30,37 +30,10 @@ loop-holds c =
     let held = deskOf (args .slots .now) (args .contents .now) (args .roster .now) in
     (start .pre .0, some-none held (args .piece .now) (args .base) (args .page .now))
 
-sub-if1 : tie.Need-sub-if1 Inv-loop μ-loop
-sub-if1 c = search needs
-
-same-length : tie.Need-same-length Inv-loop μ-loop
-same-length c = search needs
-
 returns : tie.Need-returns Inv-loop μ-loop
 returns c =
     let inv = c .before .before .loop .inv in
     (inv .0, (inv .1, omega arith))
-
-decode-requires : tie.Need-decode-requires Inv-loop μ-loop
-decode-requires c κs = search needs
-
-enum-known-decoded : tie.Need-enum-known-decoded Inv-loop μ-loop
-enum-known-decoded c = search needs
-
-shared-slice-read-kind : tie.Need-shared-slice-read-kind Inv-loop μ-loop
-shared-slice-read-kind c = search needs
-
-settle-requires : tie.Need-settle-requires Inv-loop μ-loop
-settle-requires c κs = search needs
-
-add-record-line : tie.Need-add-record-line Inv-loop μ-loop
-add-record-line c = search needs
-
-record-line-requires : tie.Need-record-line-requires Inv-loop μ-loop
-record-line-requires c κs = search needs
-
-add-steps : tie.Need-add-steps Inv-loop μ-loop
-add-steps c = search needs
 
 loop-less : tie.Need-loop-less Inv-loop μ-loop
 loop-less c =
@@ -88,29 +61,17 @@ loop-again c =
 enum-told : tie.Need-enum-told Inv-loop μ-loop
 enum-told c = search needs
 
-same-length-2 : tie.Need-same-length-2 Inv-loop μ-loop
-same-length-2 c = search needs
-
 returns-2 : tie.Need-returns-2 Inv-loop μ-loop
 returns-2 c =
     let decode = c .before .before in
     let inv = decode .before .before .before .loop .inv in
     (inv .0, (inv .1, sym (decode .decode .ensures) ∙ c .enum-told .given .1))
 
-enum-told-2 : tie.Need-enum-told-2 Inv-loop μ-loop
-enum-told-2 c = search needs
-
-same-length-3 : tie.Need-same-length-3 Inv-loop μ-loop
-same-length-3 c = search needs
-
 returns-3 : tie.Need-returns-3 Inv-loop μ-loop
 returns-3 c =
     let decode = c .before .before in
     let inv = decode .before .before .before .loop .inv in
     (inv .0, (inv .1, sym (decode .decode .ensures) ∙ c .enum-told2 .given .1))
-
-same-length-4 : tie.Need-same-length-4 Inv-loop μ-loop
-same-length-4 c = search needs
 
 returns-4 : tie.Need-returns-4 Inv-loop μ-loop
 returns-4 c =
@@ -120,28 +81,6 @@ returns-4 c =
 
 pub run-piece-spec : {M : Type 1} → statement M
 run-piece-spec =
-    tie.close
-    (tie.spec
-    Inv-loop
-    μ-loop
-    loop-holds
-    sub-if1
-    same-length
-    returns
-    decode-requires
-    enum-known-decoded
-    shared-slice-read-kind
-    settle-requires
-    add-record-line
-    record-line-requires
-    add-steps
-    loop-less
-    loop-again
-    enum-told
-    same-length-2
-    returns-2
-    enum-told-2
-    same-length-3
-    returns-3
-    same-length-4
-    returns-4)
+    tie.close (tie.spec Inv-loop μ-loop loop-holds (search needs) (search needs) returns (search needs) (search needs)
+    (search needs) (search needs) (search needs) (search needs) (search needs) loop-less loop-again enum-told
+    (search needs) returns-2 (search needs) (search needs) returns-3 (search needs) returns-4)

@@ -28,9 +28,6 @@ returns c =
       },
     )
 
-slice-reshare-prefix-run-piece : tie.Need-slice-reshare-prefix-run-piece
-slice-reshare-prefix-run-piece c = search needs
-
 slice-aggregate-run-piece : tie.Need-slice-aggregate-run-piece
 slice-aggregate-run-piece c = sym (long (c .before .before .before .before))
 
@@ -51,20 +48,8 @@ add-further c =
     let start = ran .before .before .before .before .before .before .before .before .before in
     omega (arith, ran .run-piece .ensures .1 .0 .inside, long start)
 
-next-of-requires : tie.Need-next-of-requires
-next-of-requires c κs = search needs
-
 enum-told : tie.Need-enum-told
 enum-told c = search needs
-
-sub-if2 : tie.Need-sub-if2
-sub-if2 c = search needs
-
-same-length : tie.Need-same-length
-same-length c = search needs
-
-same-length-2 : tie.Need-same-length-2
-same-length-2 c = search needs
 
 returns-2 : tie.Need-returns-2
 returns-2 c =
@@ -78,9 +63,6 @@ returns-2 c =
           (start .args .done) (omega arith),
     )
 
-slice-reshare-prefix-run-end : tie.Need-slice-reshare-prefix-run-end
-slice-reshare-prefix-run-end c = search needs
-
 slice-aggregate-run-end : tie.Need-slice-aggregate-run-end
 slice-aggregate-run-end c =
     let rest = c .before .before .before .before .before .before .before .before in
@@ -88,15 +70,6 @@ slice-aggregate-run-end c =
     let start = ran .before .before .before .before .before .before .before .before .before in
     let kept = rest .keep-rest .ensures in
     sym (length-take-le (rest .keep-rest .result) (rest .keep-rest .last .0) (omega (arith, kept .counts, kept .room, start .pre .1 .0)))
-
-run-end-requires : tie.Need-run-end-requires
-run-end-requires c κs = search needs
-
-same-length-3 : tie.Need-same-length-3
-same-length-3 c = search needs
-
-same-length-4 : tie.Need-same-length-4
-same-length-4 c = search needs
 
 returns-3 : tie.Need-returns-3
 returns-3 c =
@@ -115,12 +88,6 @@ returns-3 c =
           (end .put) (omega (arith, space .if2 .left)) (end .same _ (piece .0 .mail))
           (ran .run-piece .result .stop) (start .args .done) (piece .1 .1) (sym (next .next-of .ensures) ∙ told .enum-told .given .1),
     )
-
-same-length-5 : tie.Need-same-length-5
-same-length-5 c = search needs
-
-same-length-6 : tie.Need-same-length-6
-same-length-6 c = search needs
 
 returns-4 : tie.Need-returns-4
 returns-4 c =
@@ -141,26 +108,7 @@ returns-4 c =
 
 pub turn-spec : {M : Type 1} → statement M
 turn-spec =
-    tie.close
-    (tie.spec
-    returns
-    slice-reshare-prefix-run-piece
-    slice-aggregate-run-piece
-    run-piece-requires
-    keep-rest-requires
-    add-further
-    next-of-requires
-    enum-told
-    sub-if2
-    same-length
-    same-length-2
-    returns-2
-    slice-reshare-prefix-run-end
-    slice-aggregate-run-end
-    run-end-requires
-    same-length-3
-    same-length-4
-    returns-3
-    same-length-5
-    same-length-6
+    tie.close (tie.spec returns (search needs) slice-aggregate-run-piece run-piece-requires keep-rest-requires
+    add-further (search needs) enum-told (search needs) (search needs) (search needs) returns-2 (search needs)
+    slice-aggregate-run-end (search needs) (search needs) (search needs) returns-3 (search needs) (search needs)
     returns-4)

@@ -7,7 +7,7 @@ use borrow.Author.Needs.{needs}
 use borrow.Author.Tests.{not-true, not-false}
 use Rattle.transit.specs.declared.Rank.{Rank}
 use Rattle.broker.specs.Names.{isClosed}
-use Rattle.transit.specs.Message.{rank}
+use Rattle.transit.specs.Message.{rank, ranks}
 use Rattle.broker.specs.Ranks.{everyRank}
 use Rattle.base.specs.Below.{allBelow}
 use Rattle.broker.specs.State.{linkAt}
@@ -19,19 +19,13 @@ use Rattle.roster.proofs.awaits.alone.Tie as tie
 
 abbrev Inv-loop : tie.InvT-loop
 Inv-loop r roster i₀ i =
-    (i ≤ 16) × (allBelow i (λ k. isClosed (linkAt (ranksOf roster .links) r (rank k) .connection)) ≡ true)
+    (i ≤ ranks) × (allBelow i (λ k. isClosed (linkAt (ranksOf roster .links) r (rank k) .connection)) ≡ true)
 
 abbrev μ-loop : tie.MeasureT-loop
-μ-loop r roster i₀ i = 16 - i
-
-loop-holds : tie.Need-loop-holds Inv-loop μ-loop
-loop-holds c = search needs
+μ-loop r roster i₀ i = ranks - i
 
 link-between-requires : tie.Need-link-between-requires Inv-loop μ-loop
 link-between-requires c κs = c .before .before .pre
-
-is-closed-requires : tie.Need-is-closed-requires Inv-loop μ-loop
-is-closed-requires c κs = search needs
 
 returns : tie.Need-returns Inv-loop μ-loop
 returns c =
@@ -42,12 +36,6 @@ returns c =
     let closedTo : Rank → Bool = λ p. isClosed (linkAt (ranksOf (args .roster .now) .links) (args .r) p .connection) in
     let test : closedTo (rank (head .loop .i)) ≡ false = rw (← link, ← closed) (not-true _ (c .if1 .taken)) in
     sym (everyRank-fails closedTo (rank (head .loop .i)) (omega arith) test)
-
-add-i : tie.Need-add-i Inv-loop μ-loop
-add-i c = search needs
-
-loop-less : tie.Need-loop-less Inv-loop μ-loop
-loop-less c = search needs
 
 loop-again : tie.Need-loop-again Inv-loop μ-loop
 loop-again c =
@@ -63,20 +51,10 @@ returns-2 : tie.Need-returns-2 Inv-loop μ-loop
 unfolding everyRank
 returns-2 c =
     let head = c .before in
-    let last : head .loop .i ≡ 16 = omega arith in
+    let last : head .loop .i ≡ ranks = omega arith in
     sym (rw last at (head .loop .inv .1))
 
 pub alone-spec : {M : Type 1} → statement M
 alone-spec =
-    tie.close
-    (tie.spec
-    Inv-loop
-    μ-loop
-    loop-holds
-    link-between-requires
-    is-closed-requires
-    returns
-    add-i
-    loop-less
-    loop-again
-    returns-2)
+    tie.close (tie.spec Inv-loop μ-loop (search needs) link-between-requires (search needs) returns (search needs)
+    (search needs) loop-again returns-2)

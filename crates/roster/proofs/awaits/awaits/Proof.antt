@@ -7,7 +7,7 @@ use Prim.Native.Nat.{ℕ, _≤_, _-_}
 use native.Mathlib.Omega.{arith}
 use borrow.Author.Needs.{needs}
 use Rattle.broker.specs.Names.{isClear}
-use Rattle.transit.specs.Message.{rank}
+use Rattle.transit.specs.Message.{rank, ranks}
 use Rattle.broker.specs.Ranks.{countRanks}
 use Rattle.base.specs.Below.{countBelow}
 use Rattle.broker.specs.State.{linkAt}
@@ -18,28 +18,13 @@ use Rattle.roster.proofs.awaits.awaits.Tie as tie
 
 abbrev Inv-loop : tie.InvT-loop
 Inv-loop r roster n₀ i₀ n i =
-    (i ≤ 16) × (n ≤ i) × (n ≡ countBelow i (λ k. not (isClear (linkAt (ranksOf roster .links) r (rank k) .backlog))))
+    (i ≤ ranks) × (n ≤ i) × (n ≡ countBelow i (λ k. not (isClear (linkAt (ranksOf roster .links) r (rank k) .backlog))))
 
 abbrev μ-loop : tie.MeasureT-loop
-μ-loop r roster n₀ i₀ n i = 16 - i
-
-loop-holds : tie.Need-loop-holds Inv-loop μ-loop
-loop-holds c = search needs
+μ-loop r roster n₀ i₀ n i = ranks - i
 
 link-between-requires : tie.Need-link-between-requires Inv-loop μ-loop
 link-between-requires c κs = c .before .before .pre
-
-is-clear-requires : tie.Need-is-clear-requires Inv-loop μ-loop
-is-clear-requires c κs = search needs
-
-add-n : tie.Need-add-n Inv-loop μ-loop
-add-n c = search needs
-
-add-i : tie.Need-add-i Inv-loop μ-loop
-add-i c = search needs
-
-loop-less : tie.Need-loop-less Inv-loop μ-loop
-loop-less c = search needs
 
 loop-again : tie.Need-loop-again Inv-loop μ-loop
 loop-again c =
@@ -61,20 +46,10 @@ returns : tie.Need-returns Inv-loop μ-loop
 unfolding countRanks
 returns c =
     let head = c .before in
-    let last : head .loop .i ≡ 16 = omega arith in
+    let last : head .loop .i ≡ ranks = omega arith in
     rw last at (head .loop .inv .2)
 
 pub awaits-spec : {M : Type 1} → statement M
 awaits-spec =
-    tie.close
-    (tie.spec
-    Inv-loop
-    μ-loop
-    loop-holds
-    link-between-requires
-    is-clear-requires
-    add-n
-    add-i
-    loop-less
-    loop-again
-    returns)
+    tie.close (tie.spec Inv-loop μ-loop (search needs) link-between-requires (search needs) (search needs)
+    (search needs) (search needs) loop-again returns)

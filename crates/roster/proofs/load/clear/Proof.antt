@@ -8,27 +8,16 @@ use Rattle.roster.specs.Laws.Loaded.{copied-next, cleared}
 use Rattle.roster.specs.Loaded.{Copied}
 use Rattle.roster.proofs.load.clear.Statement.{statement}
 use Rattle.roster.proofs.load.clear.Tie as tie
+use Rattle.roster.specs.Roster.{rosterLength}
 
 abbrev Inv-loop : tie.InvT-loop
-Inv-loop roster₀ i₀ roster i = (i ≤ 552) × (length roster ≡ 552) × Copied (λ k. 0) 0 i roster
+Inv-loop roster₀ i₀ roster i = (i ≤ rosterLength) × (length roster ≡ rosterLength) × Copied (λ k. 0) 0 i roster
 
 abbrev μ-loop : tie.MeasureT-loop
-μ-loop roster₀ i₀ roster i = 552 - i
+μ-loop roster₀ i₀ roster i = rosterLength - i
 
 loop-holds : tie.Need-loop-holds Inv-loop μ-loop
 loop-holds c = (omega arith, c .pre, λ k b. absurd (omega arith))
-
-mul-roster : tie.Need-mul-roster Inv-loop μ-loop
-mul-roster c = search needs
-
-element-write-roster : tie.Need-element-write-roster Inv-loop μ-loop
-element-write-roster c = search needs
-
-add-i : tie.Need-add-i Inv-loop μ-loop
-add-i c = search needs
-
-loop-less : tie.Need-loop-less Inv-loop μ-loop
-loop-less c = search needs
 
 loop-again : tie.Need-loop-again Inv-loop μ-loop
 loop-again c =
@@ -40,19 +29,10 @@ loop-again c =
 returns : tie.Need-returns Inv-loop μ-loop
 returns c =
     let head = c .before in
-    let done : head .loop .i ≡ 552 = omega arith in
+    let done : head .loop .i ≡ rosterLength = omega arith in
     cleared (head .loop .roster) (head .loop .inv .1) (rw done at (head .loop .inv .2))
 
 pub clear-spec : {M : Type 1} → statement M
 clear-spec =
-    tie.close
-    (tie.spec
-    Inv-loop
-    μ-loop
-    loop-holds
-    mul-roster
-    element-write-roster
-    add-i
-    loop-less
-    loop-again
-    returns)
+    tie.close (tie.spec Inv-loop μ-loop loop-holds (search needs) (search needs) (search needs) (search needs)
+    loop-again returns)

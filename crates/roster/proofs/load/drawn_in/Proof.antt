@@ -4,6 +4,7 @@ use Prim.Native.Nat.{_≤_, _-_}
 use native.Mathlib.Omega.{arith}
 use borrow.Author.Needs.{needs}
 use lib.ListN.{length, length-set}
+use Rattle.broker.specs.Names.{hosts}
 use Rattle.roster.specs.Laws.Loaded.{copied-next}
 use Rattle.roster.specs.Laws.Unloaded.{drawn-copied}
 use Rattle.roster.specs.Loaded.{Copied}
@@ -12,37 +13,13 @@ use Rattle.roster.proofs.load.drawn_in.Statement.{statement}
 use Rattle.roster.proofs.load.drawn_in.Tie as tie
 
 abbrev Inv-loop : tie.InvT-loop
-Inv-loop roster drawn₀ i₀ drawn i = (i ≤ 8) × (length drawn ≡ 8) × Copied (drawnIn roster) 0 i drawn
+Inv-loop roster drawn₀ i₀ drawn i = (i ≤ hosts) × (length drawn ≡ hosts) × Copied (drawnIn roster) 0 i drawn
 
 abbrev μ-loop : tie.MeasureT-loop
-μ-loop roster drawn₀ i₀ drawn i = 8 - i
+μ-loop roster drawn₀ i₀ drawn i = hosts - i
 
 loop-holds : tie.Need-loop-holds Inv-loop μ-loop
 loop-holds c = (omega arith, refl, λ k b. absurd (omega arith))
-
-add-decode-drawn : tie.Need-add-decode-drawn Inv-loop μ-loop
-add-decode-drawn c = search needs
-
-mul-decode-drawn : tie.Need-mul-decode-drawn Inv-loop μ-loop
-mul-decode-drawn c = search needs
-
-element-copy-out-decode-drawn : tie.Need-element-copy-out-decode-drawn Inv-loop μ-loop
-element-copy-out-decode-drawn c = search needs
-
-decode-drawn-requires : tie.Need-decode-drawn-requires Inv-loop μ-loop
-decode-drawn-requires c κs = search needs
-
-mul-drawn : tie.Need-mul-drawn Inv-loop μ-loop
-mul-drawn c = search needs
-
-array-write-drawn : tie.Need-array-write-drawn Inv-loop μ-loop
-array-write-drawn c = search needs
-
-add-i : tie.Need-add-i Inv-loop μ-loop
-add-i c = search needs
-
-loop-less : tie.Need-loop-less Inv-loop μ-loop
-loop-less c = search needs
 
 loop-again : tie.Need-loop-again Inv-loop μ-loop
 loop-again c =
@@ -58,23 +35,10 @@ loop-again c =
 returns : tie.Need-returns Inv-loop μ-loop
 returns c =
     let head = c .before in
-    let done : head .loop .i ≡ 8 = omega arith in
+    let done : head .loop .i ≡ hosts = omega arith in
     drawn-copied (head .before .args .roster .now) (head .loop .drawn) (head .loop .inv .1) (rw done at (head .loop .inv .2))
 
 pub drawn-in-spec : {M : Type 1} → statement M
 drawn-in-spec =
-    tie.close
-    (tie.spec
-    Inv-loop
-    μ-loop
-    loop-holds
-    add-decode-drawn
-    mul-decode-drawn
-    element-copy-out-decode-drawn
-    decode-drawn-requires
-    mul-drawn
-    array-write-drawn
-    add-i
-    loop-less
-    loop-again
-    returns)
+    tie.close (tie.spec Inv-loop μ-loop loop-holds (search needs) (search needs) (search needs) (search needs)
+    (search needs) (search needs) (search needs) (search needs) loop-again returns)

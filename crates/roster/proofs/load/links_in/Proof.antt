@@ -4,6 +4,7 @@ use Prim.Native.Nat.{_≤_, _-_}
 use native.Mathlib.Omega.{arith}
 use borrow.Author.Needs.{needs}
 use lib.ListN.{length, length-set}
+use Rattle.transit.specs.Message.{cells}
 use Rattle.broker.specs.State.{apart}
 use Rattle.roster.specs.Laws.Loaded.{copied-next}
 use Rattle.roster.specs.Laws.Unloaded.{links-copied}
@@ -13,37 +14,13 @@ use Rattle.roster.proofs.load.links_in.Statement.{statement}
 use Rattle.roster.proofs.load.links_in.Tie as tie
 
 abbrev Inv-loop : tie.InvT-loop
-Inv-loop roster links₀ i₀ links i = (i ≤ 256) × (length links ≡ 256) × Copied (linkIn roster) apart i links
+Inv-loop roster links₀ i₀ links i = (i ≤ cells) × (length links ≡ cells) × Copied (linkIn roster) apart i links
 
 abbrev μ-loop : tie.MeasureT-loop
-μ-loop roster links₀ i₀ links i = 256 - i
+μ-loop roster links₀ i₀ links i = cells - i
 
 loop-holds : tie.Need-loop-holds Inv-loop μ-loop
 loop-holds c = (omega arith, refl, λ k b. absurd (omega arith))
-
-add-decode-link : tie.Need-add-decode-link Inv-loop μ-loop
-add-decode-link c = search needs
-
-mul-decode-link : tie.Need-mul-decode-link Inv-loop μ-loop
-mul-decode-link c = search needs
-
-element-copy-out-decode-link : tie.Need-element-copy-out-decode-link Inv-loop μ-loop
-element-copy-out-decode-link c = search needs
-
-decode-link-requires : tie.Need-decode-link-requires Inv-loop μ-loop
-decode-link-requires c κs = search needs
-
-mul-links : tie.Need-mul-links Inv-loop μ-loop
-mul-links c = search needs
-
-array-set-from-links : tie.Need-array-set-from-links Inv-loop μ-loop
-array-set-from-links c = search needs
-
-add-i : tie.Need-add-i Inv-loop μ-loop
-add-i c = search needs
-
-loop-less : tie.Need-loop-less Inv-loop μ-loop
-loop-less c = search needs
 
 loop-again : tie.Need-loop-again Inv-loop μ-loop
 loop-again c =
@@ -59,23 +36,10 @@ loop-again c =
 returns : tie.Need-returns Inv-loop μ-loop
 returns c =
     let head = c .before in
-    let done : head .loop .i ≡ 256 = omega arith in
+    let done : head .loop .i ≡ cells = omega arith in
     links-copied (head .before .args .roster .now) (head .loop .links) (head .loop .inv .1) (rw done at (head .loop .inv .2))
 
 pub links-in-spec : {M : Type 1} → statement M
 links-in-spec =
-    tie.close
-    (tie.spec
-    Inv-loop
-    μ-loop
-    loop-holds
-    add-decode-link
-    mul-decode-link
-    element-copy-out-decode-link
-    decode-link-requires
-    mul-links
-    array-set-from-links
-    add-i
-    loop-less
-    loop-again
-    returns)
+    tie.close (tie.spec Inv-loop μ-loop loop-holds (search needs) (search needs) (search needs) (search needs)
+    (search needs) (search needs) (search needs) (search needs) loop-again returns)

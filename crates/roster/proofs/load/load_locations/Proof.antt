@@ -3,35 +3,27 @@ use mathlib.Core.Path.{_≡_, _∙_}
 use Prim.Native.Nat.{_*_, _≤_, _-_}
 use native.Mathlib.Omega.{arith}
 use borrow.Author.Needs.{needs}
+use Rattle.transit.specs.Message.{ranks, cells}
 use Rattle.broker.specs.Names.{unknown}
 use Rattle.roster.specs.Laws.Loaded.{fill-none, fill-row, locations-loaded}
 use Rattle.roster.specs.Loaded.{Filled}
-use Rattle.roster.specs.Roster.{locationIn}
+use Rattle.roster.specs.Roster.{locationIn, LOCATIONS, LINKS}
 use Rattle.roster.proofs.load.load_locations.Statement.{statement}
 use Rattle.roster.proofs.load.load_locations.Tie as tie
 
 abbrev Inv-loop : tie.InvT-loop
-Inv-loop locations roster₀ a₀ roster a = (a ≤ 16) × Filled locationIn unknown locations (16 * a) 32 288 roster₀ roster
+Inv-loop locations roster₀ a₀ roster a = (a ≤ ranks) × Filled locationIn unknown locations (ranks * a) LOCATIONS LINKS roster₀ roster
 
 abbrev μ-loop : tie.MeasureT-loop
-μ-loop locations roster₀ a₀ roster a = 16 - a
+μ-loop locations roster₀ a₀ roster a = ranks - a
 
 loop-holds : tie.Need-loop-holds Inv-loop μ-loop
-loop-holds c = (omega arith, fill-none locationIn unknown _ 32 288 _)
-
-row-of-requires : tie.Need-row-of-requires Inv-loop μ-loop
-row-of-requires c κs = search needs
+loop-holds c = (omega arith, fill-none locationIn unknown _ LOCATIONS LINKS _)
 
 load-row-requires : tie.Need-load-row-requires Inv-loop μ-loop
 load-row-requires c κs =
     let head = c .before .before .before in
     (head .loop .inv .1 .long ∙ head .before .pre, omega arith)
-
-add-a : tie.Need-add-a Inv-loop μ-loop
-add-a c = search needs
-
-loop-less : tie.Need-loop-less Inv-loop μ-loop
-loop-less c = search needs
 
 loop-again : tie.Need-loop-again Inv-loop μ-loop
 loop-again c =
@@ -42,19 +34,10 @@ loop-again c =
 returns : tie.Need-returns Inv-loop μ-loop
 returns c =
     let start = c .before .before in
-    let done : 16 * c .before .loop .a ≡ 256 = omega arith in
+    let done : ranks * c .before .loop .a ≡ cells = omega arith in
     locations-loaded _ _ (start .pre) (start .args .locations) (start .good .0 .1 .0 .1) (rw done at (c .before .loop .inv .1))
 
 pub load-locations-spec : {M : Type 1} → statement M
 load-locations-spec =
-    tie.close
-    (tie.spec
-    Inv-loop
-    μ-loop
-    loop-holds
-    row-of-requires
-    load-row-requires
-    add-a
-    loop-less
-    loop-again
-    returns)
+    tie.close (tie.spec Inv-loop μ-loop loop-holds (search needs) load-row-requires (search needs) (search needs)
+    loop-again returns)

@@ -4,6 +4,7 @@ use Prim.Native.Nat.{_+_, _*_, _≤_, _-_}
 use native.Mathlib.Omega.{arith}
 use borrow.Author.Needs.{needs}
 use lib.ListN.{length, length-set}
+use Rattle.transit.specs.Message.{ranks, cells}
 use Rattle.broker.specs.Names.{unknown}
 use Rattle.roster.specs.Laws.Loaded.{copied-next}
 use Rattle.roster.specs.Laws.Unloaded.{row-entry, locations-copied}
@@ -14,52 +15,22 @@ use Rattle.roster.proofs.load.locations_in.Tie as tie
 
 abbrev Inv-loop2 : tie.InvT-loop2
 Inv-loop2 roster locations₀ a row start i₀ locations i =
-    (i ≤ 16) × (length locations ≡ 256) × Copied (locationIn roster) unknown (16 * a + i) locations
+    (i ≤ ranks) × (length locations ≡ cells) × Copied (locationIn roster) unknown (ranks * a + i) locations
 
 abbrev μ-loop2 : tie.MeasureT-loop2
-μ-loop2 roster locations₀ a row start i₀ locations i = 16 - i
+μ-loop2 roster locations₀ a row start i₀ locations i = ranks - i
 
 abbrev Inv-loop : tie.InvT-loop
-Inv-loop roster locations₀ a₀ locations a = (a ≤ 16) × (length locations ≡ 256) × Copied (locationIn roster) unknown (16 * a) locations
+Inv-loop roster locations₀ a₀ locations a = (a ≤ ranks) × (length locations ≡ cells) × Copied (locationIn roster) unknown (ranks * a) locations
 
 abbrev μ-loop : tie.MeasureT-loop
-μ-loop roster locations₀ a₀ locations a = 16 - a
-
-unknown-requires : tie.Need-unknown-requires Inv-loop2 μ-loop2 Inv-loop μ-loop
-unknown-requires c κs = search needs
+μ-loop roster locations₀ a₀ locations a = ranks - a
 
 loop-holds : tie.Need-loop-holds Inv-loop2 μ-loop2 Inv-loop μ-loop
 loop-holds c = (omega arith, refl, λ k b. absurd (omega arith))
 
-row-in-requires : tie.Need-row-in-requires Inv-loop2 μ-loop2 Inv-loop μ-loop
-row-in-requires c κs = search needs
-
-mul-start : tie.Need-mul-start Inv-loop2 μ-loop2 Inv-loop μ-loop
-mul-start c = search needs
-
 loop2-holds : tie.Need-loop2-holds Inv-loop2 μ-loop2 Inv-loop μ-loop
 loop2-holds c = let head = c .before .before in (omega arith, head .loop .inv .1, λ k b. head .loop .inv .2 k (omega arith))
-
-mul-v : tie.Need-mul-v Inv-loop2 μ-loop2 Inv-loop μ-loop
-mul-v c = search needs
-
-array-copy-out-v : tie.Need-array-copy-out-v Inv-loop2 μ-loop2 Inv-loop μ-loop
-array-copy-out-v c = search needs
-
-add-locations : tie.Need-add-locations Inv-loop2 μ-loop2 Inv-loop μ-loop
-add-locations c = search needs
-
-mul-locations : tie.Need-mul-locations Inv-loop2 μ-loop2 Inv-loop μ-loop
-mul-locations c = search needs
-
-array-set-from-locations : tie.Need-array-set-from-locations Inv-loop2 μ-loop2 Inv-loop μ-loop
-array-set-from-locations c = search needs
-
-add-i : tie.Need-add-i Inv-loop2 μ-loop2 Inv-loop μ-loop
-add-i c = search needs
-
-loop2-less : tie.Need-loop2-less Inv-loop2 μ-loop2 Inv-loop μ-loop
-loop2-less c = search needs
 
 loop2-again : tie.Need-loop2-again Inv-loop2 μ-loop2 Inv-loop μ-loop
 loop2-again c =
@@ -68,17 +39,11 @@ loop2-again c =
     let head = inner .before .before .before in
     let roster = head .before .before .args .roster .now in
     let i = inner .loop2 .i in
-    let at = 16 * head .loop .a + i in
+    let at = ranks * head .loop .a + i in
     let locations = inner .loop2 .locations in
     let here = rw (← row) at (row-entry roster (head .loop .a) (omega arith) i (omega arith)) in
     let next = copied-next (locationIn roster) unknown at locations _ (omega arith) here (inner .loop2 .inv .2) in
     (omega arith, length-set locations at _ ∙ inner .loop2 .inv .1, λ k b. next k (omega arith))
-
-add-a : tie.Need-add-a Inv-loop2 μ-loop2 Inv-loop μ-loop
-add-a c = search needs
-
-loop-less : tie.Need-loop-less Inv-loop2 μ-loop2 Inv-loop μ-loop
-loop-less c = search needs
 
 loop-again : tie.Need-loop-again Inv-loop2 μ-loop2 Inv-loop μ-loop
 loop-again c = let inner = c .before in (omega arith, inner .loop2 .inv .1, λ k b. inner .loop2 .inv .2 k (omega arith))
@@ -91,26 +56,6 @@ returns c =
 
 pub locations-in-spec : {M : Type 1} → statement M
 locations-in-spec =
-    tie.close
-    (tie.spec
-    Inv-loop2
-    μ-loop2
-    Inv-loop
-    μ-loop
-    unknown-requires
-    loop-holds
-    row-in-requires
-    mul-start
-    loop2-holds
-    mul-v
-    array-copy-out-v
-    add-locations
-    mul-locations
-    array-set-from-locations
-    add-i
-    loop2-less
-    loop2-again
-    add-a
-    loop-less
-    loop-again
-    returns)
+    tie.close (tie.spec Inv-loop2 μ-loop2 Inv-loop μ-loop (search needs) loop-holds (search needs) (search needs)
+    loop2-holds (search needs) (search needs) (search needs) (search needs) (search needs) (search needs) (search needs)
+    loop2-again (search needs) (search needs) loop-again returns)

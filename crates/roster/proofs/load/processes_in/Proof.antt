@@ -4,6 +4,7 @@ use Prim.Native.Nat.{_≤_, _-_}
 use native.Mathlib.Omega.{arith}
 use borrow.Author.Needs.{needs}
 use lib.ListN.{length, length-set}
+use Rattle.transit.specs.Message.{ranks}
 use Rattle.broker.specs.State.{idle}
 use Rattle.roster.specs.Laws.Loaded.{copied-next}
 use Rattle.roster.specs.Laws.Unloaded.{processes-copied}
@@ -13,46 +14,13 @@ use Rattle.roster.proofs.load.processes_in.Statement.{statement}
 use Rattle.roster.proofs.load.processes_in.Tie as tie
 
 abbrev Inv-loop : tie.InvT-loop
-Inv-loop roster processes₀ i₀ processes i = (i ≤ 16) × (length processes ≡ 16) × Copied (processIn roster) idle i processes
+Inv-loop roster processes₀ i₀ processes i = (i ≤ ranks) × (length processes ≡ ranks) × Copied (processIn roster) idle i processes
 
 abbrev μ-loop : tie.MeasureT-loop
-μ-loop roster processes₀ i₀ processes i = 16 - i
+μ-loop roster processes₀ i₀ processes i = ranks - i
 
 loop-holds : tie.Need-loop-holds Inv-loop μ-loop
 loop-holds c = (omega arith, refl, λ k b. absurd (omega arith))
-
-mul-decode-standing : tie.Need-mul-decode-standing Inv-loop μ-loop
-mul-decode-standing c = search needs
-
-element-copy-out-decode-standing : tie.Need-element-copy-out-decode-standing Inv-loop μ-loop
-element-copy-out-decode-standing c = search needs
-
-decode-standing-requires : tie.Need-decode-standing-requires Inv-loop μ-loop
-decode-standing-requires c κs = search needs
-
-add-decode-request : tie.Need-add-decode-request Inv-loop μ-loop
-add-decode-request c = search needs
-
-mul-decode-request : tie.Need-mul-decode-request Inv-loop μ-loop
-mul-decode-request c = search needs
-
-element-copy-out-decode-request : tie.Need-element-copy-out-decode-request Inv-loop μ-loop
-element-copy-out-decode-request c = search needs
-
-decode-request-requires : tie.Need-decode-request-requires Inv-loop μ-loop
-decode-request-requires c κs = search needs
-
-mul-processes : tie.Need-mul-processes Inv-loop μ-loop
-mul-processes c = search needs
-
-array-set-from-processes : tie.Need-array-set-from-processes Inv-loop μ-loop
-array-set-from-processes c = search needs
-
-add-i : tie.Need-add-i Inv-loop μ-loop
-add-i c = search needs
-
-loop-less : tie.Need-loop-less Inv-loop μ-loop
-loop-less c = search needs
 
 loop-again : tie.Need-loop-again Inv-loop μ-loop
 loop-again c =
@@ -70,26 +38,11 @@ loop-again c =
 returns : tie.Need-returns Inv-loop μ-loop
 returns c =
     let head = c .before in
-    let done : head .loop .i ≡ 16 = omega arith in
+    let done : head .loop .i ≡ ranks = omega arith in
     processes-copied (head .before .args .roster .now) (head .loop .processes) (head .loop .inv .1) (rw done at (head .loop .inv .2))
 
 pub processes-in-spec : {M : Type 1} → statement M
 processes-in-spec =
-    tie.close
-    (tie.spec
-    Inv-loop
-    μ-loop
-    loop-holds
-    mul-decode-standing
-    element-copy-out-decode-standing
-    decode-standing-requires
-    add-decode-request
-    mul-decode-request
-    element-copy-out-decode-request
-    decode-request-requires
-    mul-processes
-    array-set-from-processes
-    add-i
-    loop-less
-    loop-again
+    tie.close (tie.spec Inv-loop μ-loop loop-holds (search needs) (search needs) (search needs) (search needs)
+    (search needs) (search needs) (search needs) (search needs) (search needs) (search needs) (search needs) loop-again
     returns)

@@ -4,6 +4,7 @@ use Prim.Native.Nat.{_≤_, _-_}
 use native.Mathlib.Omega.{arith}
 use borrow.Author.Needs.{needs}
 use lib.ListN.{length, length-set}
+use Rattle.transit.specs.Message.{ranks}
 use Rattle.broker.specs.Names.{unknown}
 use Rattle.roster.specs.Laws.Loaded.{copied-next}
 use Rattle.roster.specs.Laws.Unloaded.{row-unloaded}
@@ -12,46 +13,13 @@ use Rattle.roster.proofs.load.row_in.Statement.{statement}
 use Rattle.roster.proofs.load.row_in.Tie as tie
 
 abbrev Inv-loop : tie.InvT-loop
-Inv-loop a roster row₀ start i₀ row i = (i ≤ 16) × (length row ≡ 16) × Copied (rowIn a roster) unknown i row
+Inv-loop a roster row₀ start i₀ row i = (i ≤ ranks) × (length row ≡ ranks) × Copied (rowIn a roster) unknown i row
 
 abbrev μ-loop : tie.MeasureT-loop
-μ-loop a roster row₀ start i₀ row i = 16 - i
-
-unknown-requires : tie.Need-unknown-requires Inv-loop μ-loop
-unknown-requires c κs = search needs
-
-mul-start : tie.Need-mul-start Inv-loop μ-loop
-mul-start c = search needs
-
-add-start : tie.Need-add-start Inv-loop μ-loop
-add-start c = search needs
+μ-loop a roster row₀ start i₀ row i = ranks - i
 
 loop-holds : tie.Need-loop-holds Inv-loop μ-loop
 loop-holds c = (omega arith, refl, λ k b. absurd (omega arith))
-
-add-decode-vmid : tie.Need-add-decode-vmid Inv-loop μ-loop
-add-decode-vmid c = search needs
-
-mul-decode-vmid : tie.Need-mul-decode-vmid Inv-loop μ-loop
-mul-decode-vmid c = search needs
-
-element-copy-out-decode-vmid : tie.Need-element-copy-out-decode-vmid Inv-loop μ-loop
-element-copy-out-decode-vmid c = search needs
-
-decode-vmid-requires : tie.Need-decode-vmid-requires Inv-loop μ-loop
-decode-vmid-requires c κs = search needs
-
-mul-row : tie.Need-mul-row Inv-loop μ-loop
-mul-row c = search needs
-
-array-set-from-row : tie.Need-array-set-from-row Inv-loop μ-loop
-array-set-from-row c = search needs
-
-add-i : tie.Need-add-i Inv-loop μ-loop
-add-i c = search needs
-
-loop-less : tie.Need-loop-less Inv-loop μ-loop
-loop-less c = search needs
 
 loop-again : tie.Need-loop-again Inv-loop μ-loop
 loop-again c =
@@ -68,27 +36,12 @@ returns : tie.Need-returns Inv-loop μ-loop
 returns c =
     let head = c .before in
     let start = head .before .before in
-    let done : head .loop .i ≡ 16 = omega arith in
+    let done : head .loop .i ≡ ranks = omega arith in
     row-unloaded (start .args .roster .now) (start .args .a) (start .pre .1) (head .loop .row) (head .loop .inv .1)
     (rw done at (head .loop .inv .2))
 
 pub row-in-spec : {M : Type 1} → statement M
 row-in-spec =
-    tie.close
-    (tie.spec
-    Inv-loop
-    μ-loop
-    unknown-requires
-    mul-start
-    add-start
-    loop-holds
-    add-decode-vmid
-    mul-decode-vmid
-    element-copy-out-decode-vmid
-    decode-vmid-requires
-    mul-row
-    array-set-from-row
-    add-i
-    loop-less
-    loop-again
+    tie.close (tie.spec Inv-loop μ-loop (search needs) (search needs) (search needs) loop-holds (search needs)
+    (search needs) (search needs) (search needs) (search needs) (search needs) (search needs) (search needs) loop-again
     returns)

@@ -13,4 +13,5 @@ returns-3 : tie.Need-returns-3
 returns-3 c = rw (ne-eqb _ _ (c .before .if1 .left), ne-eqb _ _ (c .if2 .left))
 
 pub decode-await-spec : {M : Type 1} → statement M
-decode-await-spec = tie.close (tie.spec returns returns-2 returns-3)
+decode-await-spec =
+    tie.close (tie.spec returns returns-2 returns-3)

@@ -9,15 +9,10 @@ returns : tie.Need-returns
 unfolding requestOf
 returns c = rw (eq-eqb _ _ (c .if1 .taken))
 
-cast-t4 : tie.Need-cast-t4
-cast-t4 c = search needs
-
-decode-vmid-requires : tie.Need-decode-vmid-requires
-decode-vmid-requires c κs = search needs
-
 returns-2 : tie.Need-returns-2
 unfolding requestOf
 returns-2 c = rw (ne-eqb _ _ (c .before .if1 .left), c .decode-vmid .ensures)
 
 pub decode-request-spec : {M : Type 1} → statement M
-decode-request-spec = tie.close (tie.spec returns cast-t4 decode-vmid-requires returns-2)
+decode-request-spec =
+    tie.close (tie.spec returns (search needs) (search needs) returns-2)

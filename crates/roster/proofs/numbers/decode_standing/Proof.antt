@@ -9,9 +9,6 @@ returns : tie.Need-returns
 unfolding statusOf
 returns c = rw (eq-eqb _ _ (c .if1 .taken))
 
-decode-vmid-requires : tie.Need-decode-vmid-requires
-decode-vmid-requires c κs = search needs
-
 returns-2 : tie.Need-returns-2
 unfolding statusOf
 returns-2 c = rw (ne-eqb _ _ (c .before .before .if1 .left), eq-eqb _ _ (c .if2 .taken), c .before .decode-vmid .ensures)
@@ -21,9 +18,6 @@ unfolding statusOf
 returns-3 c =
     let read = c .before .before in
     rw (ne-eqb _ _ (read .before .if1 .left), ne-eqb _ _ (c .before .if2 .left), eq-eqb _ _ (c .if3 .taken), read .decode-vmid .ensures)
-
-decode-vmid-requires-2 : tie.Need-decode-vmid-requires-2
-decode-vmid-requires-2 c κs = search needs
 
 returns-4 : tie.Need-returns-4
 unfolding statusOf
@@ -41,5 +35,4 @@ returns-4 c =
 
 pub decode-standing-spec : {M : Type 1} → statement M
 decode-standing-spec =
-    tie.close
-    (tie.spec returns decode-vmid-requires returns-2 returns-3 decode-vmid-requires-2 returns-4)
+    tie.close (tie.spec returns (search needs) returns-2 returns-3 (search needs) returns-4)

@@ -7,27 +7,6 @@ use Rattle.roster.specs.Numbers.{requestOf}
 use Rattle.roster.proofs.numbers.encode_request.Statement.{statement}
 use Rattle.roster.proofs.numbers.encode_request.Tie as tie
 
-enum-told : tie.Need-enum-told
-enum-told c = search needs
-
-enum-known-request : tie.Need-enum-known-request
-enum-known-request c = search needs
-
-cast-result : tie.Need-cast-result
-cast-result c = search needs
-
-add-result : tie.Need-add-result
-add-result c = search needs
-
-encode-vmid-requires : tie.Need-encode-vmid-requires
-encode-vmid-requires c κs = search needs
-
-mul-result : tie.Need-mul-result
-mul-result c = search needs
-
-add-result-2 : tie.Need-add-result-2
-add-result-2 c = search needs
-
 returns : tie.Need-returns
 unfolding requestOf
 returns c = search needs
@@ -40,14 +19,5 @@ returns-2 c =
 
 pub encode-request-spec : {M : Type 1} → statement M
 encode-request-spec =
-    tie.close
-    (tie.spec
-    enum-told
-    enum-known-request
-    cast-result
-    add-result
-    encode-vmid-requires
-    mul-result
-    add-result-2
-    returns
-    returns-2)
+    tie.close (tie.spec (search needs) (search needs) (search needs) (search needs) (search needs) (search needs)
+    (search needs) returns returns-2)

@@ -4,18 +4,6 @@ use Rattle.roster.specs.Laws.Reads.{drawn-at, drawn-past}
 use Rattle.roster.proofs.read.drawn_on.Statement.{statement}
 use Rattle.roster.proofs.read.drawn_on.Tie as tie
 
-add-decode-drawn : tie.Need-add-decode-drawn
-add-decode-drawn c = search needs
-
-mul-decode-drawn : tie.Need-mul-decode-drawn
-mul-decode-drawn c = search needs
-
-element-copy-out-decode-drawn : tie.Need-element-copy-out-decode-drawn
-element-copy-out-decode-drawn c = search needs
-
-decode-drawn-requires : tie.Need-decode-drawn-requires
-decode-drawn-requires c κs = search needs
-
 returns : tie.Need-returns
 returns c =
     let start = c .before .before .before in
@@ -26,11 +14,4 @@ returns-2 c = let start = c .before in rw (drawn-past (start .args .roster .now)
 
 pub drawn-on-spec : {M : Type 1} → statement M
 drawn-on-spec =
-    tie.close
-    (tie.spec
-    add-decode-drawn
-    mul-decode-drawn
-    element-copy-out-decode-drawn
-    decode-drawn-requires
-    returns
-    returns-2)
+    tie.close (tie.spec (search needs) (search needs) (search needs) (search needs) returns returns-2)

@@ -5,21 +5,6 @@ use Rattle.roster.specs.Laws.Reads.{link-at, link-past}
 use Rattle.roster.proofs.read.link_between.Statement.{statement}
 use Rattle.roster.proofs.read.link_between.Tie as tie
 
-cell-requires : tie.Need-cell-requires
-cell-requires c κs = search needs
-
-add-decode-link : tie.Need-add-decode-link
-add-decode-link c = search needs
-
-mul-decode-link : tie.Need-mul-decode-link
-mul-decode-link c = search needs
-
-element-copy-out-decode-link : tie.Need-element-copy-out-decode-link
-element-copy-out-decode-link c = search needs
-
-decode-link-requires : tie.Need-decode-link-requires
-decode-link-requires c κs = search needs
-
 returns : tie.Need-returns
 returns c =
     let test = c .before .before in
@@ -34,12 +19,4 @@ returns-2 c =
 
 pub link-between-spec : {M : Type 1} → statement M
 link-between-spec =
-    tie.close
-    (tie.spec
-    cell-requires
-    add-decode-link
-    mul-decode-link
-    element-copy-out-decode-link
-    decode-link-requires
-    returns
-    returns-2)
+    tie.close (tie.spec (search needs) (search needs) (search needs) (search needs) (search needs) returns returns-2)

@@ -5,30 +5,12 @@ use Rattle.roster.specs.Laws.Reads.{location-at, location-past}
 use Rattle.roster.proofs.read.location_of.Statement.{statement}
 use Rattle.roster.proofs.read.location_of.Tie as tie
 
-cell-requires : tie.Need-cell-requires
-cell-requires c κs = search needs
-
-add-decode-vmid : tie.Need-add-decode-vmid
-add-decode-vmid c = search needs
-
-mul-decode-vmid : tie.Need-mul-decode-vmid
-mul-decode-vmid c = search needs
-
-element-copy-out-decode-vmid : tie.Need-element-copy-out-decode-vmid
-element-copy-out-decode-vmid c = search needs
-
-decode-vmid-requires : tie.Need-decode-vmid-requires
-decode-vmid-requires c κs = search needs
-
 returns : tie.Need-returns
 returns c =
     let test = c .before .before in
     let cell = test .before .cell .ensures in
     let args = test .before .before .args in
     rw (location-at (args .roster .now) (args .a) (args .b) (omega arith), ← cell) (c .decode-vmid .ensures)
-
-unknown-requires : tie.Need-unknown-requires
-unknown-requires c κs = search needs
 
 returns-2 : tie.Need-returns-2
 returns-2 c =
@@ -38,13 +20,5 @@ returns-2 c =
 
 pub location-of-spec : {M : Type 1} → statement M
 location-of-spec =
-    tie.close
-    (tie.spec
-    cell-requires
-    add-decode-vmid
-    mul-decode-vmid
-    element-copy-out-decode-vmid
-    decode-vmid-requires
-    returns
-    unknown-requires
-    returns-2)
+    tie.close (tie.spec (search needs) (search needs) (search needs) (search needs) (search needs) returns
+    (search needs) returns-2)

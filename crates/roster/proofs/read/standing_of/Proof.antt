@@ -4,18 +4,6 @@ use Rattle.roster.specs.Laws.Reads.{status-at, status-past}
 use Rattle.roster.proofs.read.standing_of.Statement.{statement}
 use Rattle.roster.proofs.read.standing_of.Tie as tie
 
-cast-i : tie.Need-cast-i
-cast-i c = search needs
-
-mul-decode-standing : tie.Need-mul-decode-standing
-mul-decode-standing c = search needs
-
-element-copy-out-decode-standing : tie.Need-element-copy-out-decode-standing
-element-copy-out-decode-standing c = search needs
-
-decode-standing-requires : tie.Need-decode-standing-requires
-decode-standing-requires c κs = search needs
-
 returns : tie.Need-returns
 returns c =
     let test = c .before .before in
@@ -27,11 +15,4 @@ returns-2 c = let args = c .before .before .args in rw (status-past (args .roste
 
 pub standing-of-spec : {M : Type 1} → statement M
 standing-of-spec =
-    tie.close
-    (tie.spec
-    cast-i
-    mul-decode-standing
-    element-copy-out-decode-standing
-    decode-standing-requires
-    returns
-    returns-2)
+    tie.close (tie.spec (search needs) (search needs) (search needs) (search needs) returns returns-2)

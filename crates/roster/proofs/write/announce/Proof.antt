@@ -6,7 +6,7 @@ use native.Mathlib.Omega.{arith}
 use borrow.Author.Needs.{needs}
 use lib.ListN.{set}
 use Rattle.broker.specs.Life.{announced}
-use Rattle.transit.specs.Message.{rank}
+use Rattle.transit.specs.Message.{rank, ranks}
 use Rattle.broker.specs.Ranks.{eachRank}
 use Rattle.base.specs.Below.{eachBelow}
 use Rattle.broker.specs.State.{cell, withLocations}
@@ -16,24 +16,15 @@ use Rattle.roster.proofs.write.announce.Tie as tie
 
 abbrev Inv-loop : tie.InvT-loop
 Inv-loop r vmid roster₀ i₀ roster i =
-    (i ≤ 16) ×
+    (i ≤ ranks) ×
     Holds roster
     (withLocations (eachBelow i (λ p l. set l (cell (rank p) r) vmid) (ranksOf roster₀ .locations)) (ranksOf roster₀))
 
 abbrev μ-loop : tie.MeasureT-loop
-μ-loop r vmid roster₀ i₀ roster i = 16 - i
+μ-loop r vmid roster₀ i₀ roster i = ranks - i
 
 loop-holds : tie.Need-loop-holds Inv-loop μ-loop
 loop-holds c = (omega arith, record { long = c .pre; same = refl })
-
-set-location-requires : tie.Need-set-location-requires Inv-loop μ-loop
-set-location-requires c κs = search needs
-
-add-i : tie.Need-add-i Inv-loop μ-loop
-add-i c = search needs
-
-loop-less : tie.Need-loop-less Inv-loop μ-loop
-loop-less c = search needs
 
 loop-again : tie.Need-loop-again Inv-loop μ-loop
 loop-again c =
@@ -45,10 +36,9 @@ loop-again c =
 returns : tie.Need-returns Inv-loop μ-loop
 unfolding announced eachRank
 returns c =
-    let done : c .before .loop .i ≡ 16 = omega arith in
+    let done : c .before .loop .i ≡ ranks = omega arith in
     rw done at (c .before .loop .inv .1)
 
 pub announce-spec : {M : Type 1} → statement M
 announce-spec =
-    tie.close
-    (tie.spec Inv-loop μ-loop loop-holds set-location-requires add-i loop-less loop-again returns)
+    tie.close (tie.spec Inv-loop μ-loop loop-holds (search needs) (search needs) (search needs) loop-again returns)

@@ -4,18 +4,6 @@ use Rattle.roster.specs.Laws.Stores.{drawn-stored, drawn-past-end}
 use Rattle.roster.proofs.write.set_drawn.Statement.{statement}
 use Rattle.roster.proofs.write.set_drawn.Tie as tie
 
-encode-drawn-requires : tie.Need-encode-drawn-requires
-encode-drawn-requires c κs = search needs
-
-add-roster : tie.Need-add-roster
-add-roster c = search needs
-
-mul-roster : tie.Need-mul-roster
-mul-roster c = search needs
-
-element-write-roster : tie.Need-element-write-roster
-element-write-roster c = search needs
-
 returns : tie.Need-returns
 returns c =
     let test = c .before in
@@ -31,5 +19,4 @@ returns-2 c =
 
 pub set-drawn-spec : {M : Type 1} → statement M
 set-drawn-spec =
-    tie.close
-    (tie.spec encode-drawn-requires add-roster mul-roster element-write-roster returns returns-2)
+    tie.close (tie.spec (search needs) (search needs) (search needs) (search needs) returns returns-2)

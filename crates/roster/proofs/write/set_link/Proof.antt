@@ -4,21 +4,6 @@ use Rattle.roster.specs.Laws.Stores.{link-stored, link-past-end}
 use Rattle.roster.proofs.write.set_link.Statement.{statement}
 use Rattle.roster.proofs.write.set_link.Tie as tie
 
-cell-requires : tie.Need-cell-requires
-cell-requires c κs = search needs
-
-encode-link-requires : tie.Need-encode-link-requires
-encode-link-requires c κs = search needs
-
-add-roster : tie.Need-add-roster
-add-roster c = search needs
-
-mul-roster : tie.Need-mul-roster
-mul-roster c = search needs
-
-element-write-roster : tie.Need-element-write-roster
-element-write-roster c = search needs
-
 returns : tie.Need-returns
 returns c =
     let test = c .before in
@@ -36,12 +21,4 @@ returns-2 c =
 
 pub set-link-spec : {M : Type 1} → statement M
 set-link-spec =
-    tie.close
-    (tie.spec
-    cell-requires
-    encode-link-requires
-    add-roster
-    mul-roster
-    element-write-roster
-    returns
-    returns-2)
+    tie.close (tie.spec (search needs) (search needs) (search needs) (search needs) (search needs) returns returns-2)

@@ -4,21 +4,6 @@ use Rattle.roster.specs.Laws.Stores.{location-stored, location-past-end}
 use Rattle.roster.proofs.write.set_location.Statement.{statement}
 use Rattle.roster.proofs.write.set_location.Tie as tie
 
-cell-requires : tie.Need-cell-requires
-cell-requires c κs = search needs
-
-encode-vmid-requires : tie.Need-encode-vmid-requires
-encode-vmid-requires c κs = search needs
-
-add-roster : tie.Need-add-roster
-add-roster c = search needs
-
-mul-roster : tie.Need-mul-roster
-mul-roster c = search needs
-
-element-write-roster : tie.Need-element-write-roster
-element-write-roster c = search needs
-
 returns : tie.Need-returns
 returns c =
     let test = c .before in
@@ -36,12 +21,4 @@ returns-2 c =
 
 pub set-location-spec : {M : Type 1} → statement M
 set-location-spec =
-    tie.close
-    (tie.spec
-    cell-requires
-    encode-vmid-requires
-    add-roster
-    mul-roster
-    element-write-roster
-    returns
-    returns-2)
+    tie.close (tie.spec (search needs) (search needs) (search needs) (search needs) (search needs) returns returns-2)

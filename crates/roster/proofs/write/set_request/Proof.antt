@@ -4,21 +4,6 @@ use Rattle.roster.specs.Laws.Stores.{request-stored, process-past-end}
 use Rattle.roster.proofs.write.set_request.Statement.{statement}
 use Rattle.roster.proofs.write.set_request.Tie as tie
 
-cast-i : tie.Need-cast-i
-cast-i c = search needs
-
-encode-request-requires : tie.Need-encode-request-requires
-encode-request-requires c κs = search needs
-
-add-roster : tie.Need-add-roster
-add-roster c = search needs
-
-mul-roster : tie.Need-mul-roster
-mul-roster c = search needs
-
-element-write-roster : tie.Need-element-write-roster
-element-write-roster c = search needs
-
 returns : tie.Need-returns
 returns c =
     let test = c .before in
@@ -34,12 +19,4 @@ returns-2 c =
 
 pub set-request-spec : {M : Type 1} → statement M
 set-request-spec =
-    tie.close
-    (tie.spec
-    cast-i
-    encode-request-requires
-    add-roster
-    mul-roster
-    element-write-roster
-    returns
-    returns-2)
+    tie.close (tie.spec (search needs) (search needs) (search needs) (search needs) (search needs) returns returns-2)

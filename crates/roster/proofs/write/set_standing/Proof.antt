@@ -4,18 +4,6 @@ use Rattle.roster.specs.Laws.Stores.{standing-stored, process-past-end}
 use Rattle.roster.proofs.write.set_standing.Statement.{statement}
 use Rattle.roster.proofs.write.set_standing.Tie as tie
 
-cast-i : tie.Need-cast-i
-cast-i c = search needs
-
-encode-standing-requires : tie.Need-encode-standing-requires
-encode-standing-requires c κs = search needs
-
-mul-roster : tie.Need-mul-roster
-mul-roster c = search needs
-
-element-write-roster : tie.Need-element-write-roster
-element-write-roster c = search needs
-
 returns : tie.Need-returns
 returns c =
     let test = c .before in
@@ -31,5 +19,4 @@ returns-2 c =
 
 pub set-standing-spec : {M : Type 1} → statement M
 set-standing-spec =
-    tie.close
-    (tie.spec cast-i encode-standing-requires mul-roster element-write-roster returns returns-2)
+    tie.close (tie.spec (search needs) (search needs) (search needs) (search needs) returns returns-2)

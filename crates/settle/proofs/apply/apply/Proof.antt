@@ -22,30 +22,12 @@ desk c = deskOf (c .args .slots .now) (c .args .contents .now) (c .args .roster 
 passing : (c : tie.Start) (r : Record) → c .args .read ≡ r → Passes (desk c) r
 passing c r e = passes (desk c) r (rw e at (c .pre .1))
 
-enum-known-read : tie.Need-enum-known-read
-enum-known-read c = search needs
-
 start-requires : tie.Need-start-requires
 start-requires c κs =
     let known = c .before .before in
     let start = known .before .before in
     let fits = start-fits (desk start) _ _ (passing start _ (known .read .given .1)) in
     (start .pre .0 .long, fits .room)
-
-enum-known-read-2 : tie.Need-enum-known-read-2
-enum-known-read-2 c = search needs
-
-call-requires : tie.Need-call-requires
-call-requires c κs = search needs
-
-enum-known-read-3 : tie.Need-enum-known-read-3
-enum-known-read-3 c = search needs
-
-route-requires : tie.Need-route-requires
-route-requires c κs = search needs
-
-enum-known-read-4 : tie.Need-enum-known-read-4
-enum-known-read-4 c = search needs
 
 send-requires : tie.Need-send-requires
 send-requires c κs =
@@ -54,18 +36,12 @@ send-requires c κs =
     let fits = send-fits (desk start) _ _ _ (passing start _ (known .read4 .given .1)) in
     (start .pre .0, ((fits .two .first, fits .two .second), fits .room))
 
-enum-known-read-5 : tie.Need-enum-known-read-5
-enum-known-read-5 c = search needs
-
 take-requires : tie.Need-take-requires
 take-requires c κs =
     let known = c .before .before .before in
     let start = known .before .before in
     let fits = take-fits (desk start) _ _ (passing start _ (known .read5 .given .1)) in
     (start .pre .0 .mail, ((fits .two .second, fits .two .first), pos-of-ne-zero (eqb-false _ 0 (fits .unread))))
-
-enum-known-read-6 : tie.Need-enum-known-read-6
-enum-known-read-6 c = search needs
 
 move-to-requires : tie.Need-move-to-requires
 move-to-requires c κs =
@@ -74,18 +50,12 @@ move-to-requires c κs =
     let fits = move-fits (desk start) _ _ (passing start _ (known .read6 .given .1)) in
     (start .pre .0 .long, (fits .one .in-range, fits .room))
 
-enum-known-read-7 : tie.Need-enum-known-read-7
-enum-known-read-7 c = search needs
-
 heed-requires : tie.Need-heed-requires
 heed-requires c κs =
     let known = c .before .before .before in
     let start = known .before .before in
     let fits = heed-fits (desk start) _ _ (passing start _ (known .read7 .given .1)) in
     (start .pre .0 .long, (fits .two .first, fits .two .second))
-
-enum-known-read-8 : tie.Need-enum-known-read-8
-enum-known-read-8 c = search needs
 
 drain-requires : tie.Need-drain-requires
 drain-requires c κs =
@@ -94,9 +64,6 @@ drain-requires c κs =
     let fits = drain-fits (desk start) _ _ (passing start _ (known .read8 .given .1)) in
     (start .pre .0, (fits .two .first, fits .two .second))
 
-enum-known-read-9 : tie.Need-enum-known-read-9
-enum-known-read-9 c = search needs
-
 land-requires : tie.Need-land-requires
 land-requires c κs =
     let known = c .before .before .before in
@@ -104,27 +71,12 @@ land-requires c κs =
     let fits = land-fits (desk start) _ (passing start _ (known .read9 .given .1)) in
     (start .pre .0 .long, fits .one .in-range)
 
-enum-known-read-10 : tie.Need-enum-known-read-10
-enum-known-read-10 c = search needs
-
 part-requires : tie.Need-part-requires
 part-requires c κs =
     let known = c .before .before .before in
     let start = known .before .before in
     let fits = part-fits (desk start) _ _ (passing start _ (known .read10 .given .1)) in
     (start .pre .0 .long, ((fits .two .first, fits .two .second), fits .two .apart))
-
-enum-known-read-11 : tie.Need-enum-known-read-11
-enum-known-read-11 c = search needs
-
-end-requires : tie.Need-end-requires
-end-requires c κs = search needs
-
-enum-known-read-12 : tie.Need-enum-known-read-12
-enum-known-read-12 c = search needs
-
-look-requires : tie.Need-look-requires
-look-requires c κs = search needs
 
 returns : tie.Need-returns
 unfolding apply
@@ -206,41 +158,8 @@ returns-12 c =
 
 pub apply-spec : {M : Type 1} → statement M
 apply-spec =
-    tie.close
-    (tie.spec
-    enum-known-read
-    start-requires
-    enum-known-read-2
-    call-requires
-    enum-known-read-3
-    route-requires
-    enum-known-read-4
-    send-requires
-    enum-known-read-5
-    take-requires
-    enum-known-read-6
-    move-to-requires
-    enum-known-read-7
-    heed-requires
-    enum-known-read-8
-    drain-requires
-    enum-known-read-9
-    land-requires
-    enum-known-read-10
-    part-requires
-    enum-known-read-11
-    end-requires
-    enum-known-read-12
-    look-requires
-    returns
-    returns-2
-    returns-3
-    returns-4
-    returns-5
-    returns-6
-    returns-7
-    returns-8
-    returns-9
-    returns-10
-    returns-11
-    returns-12)
+    tie.close (tie.spec (search needs) start-requires (search needs) (search needs) (search needs) (search needs)
+    (search needs) send-requires (search needs) take-requires (search needs) move-to-requires (search needs)
+    heed-requires (search needs) drain-requires (search needs) land-requires (search needs) part-requires (search needs)
+    (search needs) (search needs) (search needs) returns returns-2 returns-3 returns-4 returns-5 returns-6 returns-7
+    returns-8 returns-9 returns-10 returns-11 returns-12)

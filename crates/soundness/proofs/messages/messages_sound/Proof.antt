@@ -12,7 +12,7 @@ use lib.ListN.{length, drop, replicate, getD, set, length-set, drop-of-length-le
 use Rattle.transit.specs.Laws.Order.{place-below-four}
 use Rattle.transit.specs.Laws.Slots.{read-slot}
 use Rattle.base.specs.Laws.Tests.{both, fails-left, fails-right}
-use Rattle.transit.specs.Message.{number}
+use Rattle.transit.specs.Message.{number, ranks, cells}
 use Rattle.transit.specs.Unread.{unreadOf}
 use Rattle.transit.specs.declared.Message.{Message}
 use Rattle.transit.specs.declared.Place.the-variants.{SourceList}
@@ -28,10 +28,10 @@ use Rattle.soundness.proofs.messages.messages_sound.Tie as tie
 abbrev Inv-loop : tie.InvT-loop
 Inv-loop processes links t count last₀ i₀ last i =
     (i ≤ count) ×
-    (length last ≡ 256) ×
+    (length last ≡ cells) ×
     Tested (messageSoundAt processes links) pairOf number isNamed last ×
     (rises (messageSoundAt processes links) pairOf (markOf number) last (drop i (unreadOf t .messages)) ≡
-    rises (messageSoundAt processes links) pairOf number (replicate 256 0) (unreadOf t .messages))
+    rises (messageSoundAt processes links) pairOf number (replicate cells 0) (unreadOf t .messages))
 
 abbrev μ-loop : tie.MeasureT-loop
 μ-loop processes links t count last₀ i₀ last i = count - i
@@ -60,9 +60,9 @@ all-sound head = messagesSound (head .before .before .args .t1) (head .before .b
 -- what is known of the last marks before the messages after this turn's
 abbrev Kept : tie.At-loop Inv-loop μ-loop → List ℕ → Type 0
 Kept head last =
-    (length last ≡ 256) ×
+    (length last ≡ cells) ×
     Tested (test head) pairOf number isNamed last ×
-    (rises (test head) pairOf (markOf number) last (others head) ≡ rises (test head) pairOf number (replicate 256 0) (unread head))
+    (rises (test head) pairOf (markOf number) last (others head) ≡ rises (test head) pairOf number (replicate cells 0) (unread head))
 
 -- the loop's head in the turn of a place after the names' test, and of a place after the mark
 abbrev after-names : tie.Else2 Inv-loop μ-loop → tie.At-loop Inv-loop μ-loop
@@ -108,14 +108,14 @@ fails-here c unfit =
 named : (c : tie.Else2 Inv-loop μ-loop) → isNamed (message (after-names c)) ≡ true
 named c = sym (c .before .is-named .ensures) ∙ not-false _ (c .if2 .left)
 
-sender-below : (c : tie.After-number Inv-loop μ-loop) → message (after-mark c) .sender .0 < 16
+sender-below : (c : tie.After-number Inv-loop μ-loop) → message (after-mark c) .sender .0 < ranks
 sender-below c = sender-inside (message (after-mark c)) (named (names c))
 
-receiver-below : (c : tie.After-number Inv-loop μ-loop) → message (after-mark c) .receiver .0 < 16
+receiver-below : (c : tie.After-number Inv-loop μ-loop) → message (after-mark c) .receiver .0 < ranks
 receiver-below c = receiver-inside (message (after-mark c)) (named (names c))
 
 -- the pair of a message has a cell
-pair-below : (c : tie.After-number Inv-loop μ-loop) → pairOf (message (after-mark c)) < 256
+pair-below : (c : tie.After-number Inv-loop μ-loop) → pairOf (message (after-mark c)) < cells
 pair-below c = pair-inside (message (after-mark c)) (named (names c))
 
 -- a message that has the last mark of its pair is passed
@@ -138,7 +138,7 @@ passed-tested c above fits =
     let ps = head .before .before .args .t1 in
     let ls = head .before .before .args .t2 in
     let passed = rises-next (test head) pairOf (markOf number) (head .loop .last) (message head) (others head) fits above in
-    let next = tested-next (test head) pairOf number 256 (has-cell ps ls) isNamed (fit-alike ps ls) in
+    let next = tested-next (test head) pairOf number cells (has-cell ps ls) isNamed (fit-alike ps ls) in
     let tested = next (head .loop .last) (message head) (inv .1) (inv .2) fits in
     (simp length-set (inv .1), tested, sym passed ∙ rw (here head (omega arith)) at (inv .3))
 
@@ -153,38 +153,14 @@ loop-holds c =
     let ls = args .t2 in (
       omega arith,
       search needs,
-      none-tested (messageSoundAt ps ls) pairOf number isNamed 256 pair-inside,
-      by-marks (messageSoundAt ps ls) pairOf number 256 (has-cell ps ls) (unreadOf (args .t3) .messages),
+      none-tested (messageSoundAt ps ls) pairOf number isNamed cells pair-inside,
+      by-marks (messageSoundAt ps ls) pairOf number cells (has-cell ps ls) (unreadOf (args .t3) .messages),
     )
-
-mul-m : tie.Need-mul-m Inv-loop μ-loop
-mul-m c = search needs
-
-element-copy-out-m : tie.Need-element-copy-out-m Inv-loop μ-loop
-element-copy-out-m c = search needs
-
-is-named-requires : tie.Need-is-named-requires Inv-loop μ-loop
-is-named-requires c κs = search needs
 
 returns-2 : tie.Need-returns-2 Inv-loop μ-loop
 returns-2 c =
     let unnamed = sym (c .before .is-named .ensures) ∙ not-true _ (c .if2 .taken) in
     fails-here (c .before .before .before) (fails-left _ unnamed)
-
-cast-from : tie.Need-cast-from Inv-loop μ-loop
-cast-from c = search needs
-
-cast-to : tie.Need-cast-to Inv-loop μ-loop
-cast-to c = search needs
-
-mul-pair : tie.Need-mul-pair Inv-loop μ-loop
-mul-pair c = search needs
-
-add-pair : tie.Need-add-pair Inv-loop μ-loop
-add-pair c = search needs
-
-number-requires : tie.Need-number-requires Inv-loop μ-loop
-number-requires c κs = search needs
 
 add-mark : tie.Need-add-mark Inv-loop μ-loop
 add-mark c = omega (arith, c .number .ensures, place-below-four (message (after-mark c) .place))
@@ -202,34 +178,16 @@ returns-3 c =
     let falls = rises-falls (test head) pairOf (markOf number) (head .loop .last) (message head) (others head) lower in
     decides head false (rw (here head (omega arith)) falls)
 
-mul-sender : tie.Need-mul-sender Inv-loop μ-loop
-mul-sender c = search needs
-
 array-copy-out-sender : tie.Need-array-copy-out-sender Inv-loop μ-loop
 array-copy-out-sender c = sender-below (c .before .before)
 
-mul-receiver : tie.Need-mul-receiver Inv-loop μ-loop
-mul-receiver c = search needs
-
 array-copy-out-receiver : tie.Need-array-copy-out-receiver Inv-loop μ-loop
 array-copy-out-receiver c = receiver-below (c .before .before .before)
-
-mul-back : tie.Need-mul-back Inv-loop μ-loop
-mul-back c = search needs
-
-add-back : tie.Need-add-back Inv-loop μ-loop
-add-back c = search needs
-
-mul-back-2 : tie.Need-mul-back-2 Inv-loop μ-loop
-mul-back-2 c = search needs
 
 array-copy-out-back : tie.Need-array-copy-out-back Inv-loop μ-loop
 array-copy-out-back c =
     let marked = c .before .before .before .before in
     omega (arith, sender-below marked, receiver-below marked)
-
-message-fits-requires : tie.Need-message-fits-requires Inv-loop μ-loop
-message-fits-requires c κs = search needs
 
 returns-4 : tie.Need-returns-4 Inv-loop μ-loop
 returns-4 c =
@@ -239,12 +197,6 @@ returns-4 c =
 
 array-write-last : tie.Need-array-write-last Inv-loop μ-loop
 array-write-last c = pair-below (c .before .before .before .before .before .before .before)
-
-add-i : tie.Need-add-i Inv-loop μ-loop
-add-i c = search needs
-
-loop-less : tie.Need-loop-less Inv-loop μ-loop
-loop-less c = search needs
 
 loop-again : tie.Need-loop-again Inv-loop μ-loop
 loop-again c =
@@ -268,37 +220,8 @@ returns-5 c =
 
 pub messages-sound-spec : {M : Type 1} → statement M
 messages-sound-spec =
-    tie.close
-    (tie.spec
-    Inv-loop
-    μ-loop
-    returns
-    loop-holds
-    mul-m
-    element-copy-out-m
-    is-named-requires
-    returns-2
-    cast-from
-    cast-to
-    mul-pair
-    add-pair
-    number-requires
-    add-mark
-    array-read-if3
-    array-read-if4
-    returns-3
-    mul-sender
-    array-copy-out-sender
-    mul-receiver
-    array-copy-out-receiver
-    mul-back
-    add-back
-    mul-back-2
-    array-copy-out-back
-    message-fits-requires
-    returns-4
-    array-write-last
-    add-i
-    loop-less
-    loop-again
-    returns-5)
+    tie.close (tie.spec Inv-loop μ-loop returns loop-holds (search needs) (search needs) (search needs) returns-2
+    (search needs) (search needs) (search needs) (search needs) (search needs) add-mark array-read-if3 array-read-if4
+    returns-3 (search needs) array-copy-out-sender (search needs) array-copy-out-receiver (search needs) (search needs)
+    (search needs) array-copy-out-back (search needs) returns-4 array-write-last (search needs) (search needs)
+    loop-again returns-5)

@@ -5,15 +5,6 @@ use borrow.Author.Needs.{needs}
 use Rattle.soundness.proofs.names.is_drawn.Statement.{statement}
 use Rattle.soundness.proofs.names.is_drawn.Tie as tie
 
-cast-host : tie.Need-cast-host
-cast-host c = search needs
-
-mul-last : tie.Need-mul-last
-mul-last c = search needs
-
-array-read-last : tie.Need-array-read-last
-array-read-last c = search needs
-
 returns : tie.Need-returns
 returns c = rw (lt-ltb _ _ (c .before .before .before .if1 .taken))
 
@@ -21,4 +12,5 @@ returns-2 : tie.Need-returns-2
 returns-2 c = rw (le-ltb _ _ (c .if1 .left))
 
 pub is-drawn-spec : {M : Type 1} → statement M
-is-drawn-spec = tie.close (tie.spec cast-host mul-last array-read-last returns returns-2)
+is-drawn-spec =
+    tie.close (tie.spec (search needs) (search needs) (search needs) returns returns-2)

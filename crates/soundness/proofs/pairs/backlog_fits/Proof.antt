@@ -4,21 +4,6 @@ use borrow.Author.Needs.{needs}
 use Rattle.soundness.proofs.pairs.backlog_fits.Statement.{statement}
 use Rattle.soundness.proofs.pairs.backlog_fits.Tie as tie
 
-is-clear-requires : tie.Need-is-clear-requires
-is-clear-requires c κs = search needs
-
-is-migrating-requires : tie.Need-is-migrating-requires
-is-migrating-requires c κs = search needs
-
-is-started-requires : tie.Need-is-started-requires
-is-started-requires c κs = search needs
-
-is-unheeded-requires : tie.Need-is-unheeded-requires
-is-unheeded-requires c κs = search needs
-
-is-closing-requires : tie.Need-is-closing-requires
-is-closing-requires c κs = search needs
-
 returns : tie.Need-returns
 returns c =
     rw (
@@ -31,11 +16,4 @@ returns c =
 
 pub backlog-fits-spec : {M : Type 1} → statement M
 backlog-fits-spec =
-    tie.close
-    (tie.spec
-    is-clear-requires
-    is-migrating-requires
-    is-started-requires
-    is-unheeded-requires
-    is-closing-requires
-    returns)
+    tie.close (tie.spec (search needs) (search needs) (search needs) (search needs) (search needs) returns)

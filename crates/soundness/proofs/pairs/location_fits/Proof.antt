@@ -4,18 +4,6 @@ use borrow.Author.Needs.{needs}
 use Rattle.soundness.proofs.pairs.location_fits.Statement.{statement}
 use Rattle.soundness.proofs.pairs.location_fits.Tie as tie
 
-is-started-requires : tie.Need-is-started-requires
-is-started-requires c κs = search needs
-
-is-drawn-requires : tie.Need-is-drawn-requires
-is-drawn-requires c κs = search needs
-
-unknown-requires : tie.Need-unknown-requires
-unknown-requires c κs = search needs
-
-same-requires : tie.Need-same-requires
-same-requires c κs = search needs
-
 returns : tie.Need-returns
 returns c = rw (← c .before .before .is-started .ensures, c .before .if1 .taken, c .is-drawn .ensures)
 
@@ -24,11 +12,4 @@ returns-2 c = rw (← c .before .before .before .is-started .ensures, c .before 
 
 pub location-fits-spec : {M : Type 1} → statement M
 location-fits-spec =
-    tie.close
-    (tie.spec
-    is-started-requires
-    is-drawn-requires
-    unknown-requires
-    same-requires
-    returns
-    returns-2)
+    tie.close (tie.spec (search needs) (search needs) (search needs) (search needs) returns returns-2)

@@ -6,15 +6,6 @@ use Rattle.soundness.specs.Laws.Pairs.{names-decide}
 use Rattle.soundness.proofs.pairs.pair_sound.Statement.{statement}
 use Rattle.soundness.proofs.pairs.pair_sound.Tie as tie
 
-location-fits-requires : tie.Need-location-fits-requires
-location-fits-requires c κs = search needs
-
-vmids-apart-requires : tie.Need-vmids-apart-requires
-vmids-apart-requires c κs = search needs
-
-holds-nothing-requires : tie.Need-holds-nothing-requires
-holds-nothing-requires c κs = search needs
-
 returns : tie.Need-returns
 returns c =
     let names = c .before .before in
@@ -25,15 +16,6 @@ returns c =
       names .vmids-apart .ensures,
       names .before .location-fits .ensures,
     )
-
-connection-fits-requires : tie.Need-connection-fits-requires
-connection-fits-requires c κs = search needs
-
-backlog-fits-requires : tie.Need-backlog-fits-requires
-backlog-fits-requires c κs = search needs
-
-request-fits-requires : tie.Need-request-fits-requires
-request-fits-requires c κs = search needs
 
 returns-2 : tie.Need-returns-2
 returns-2 c =
@@ -48,13 +30,5 @@ returns-2 c =
 
 pub pair-sound-spec : {M : Type 1} → statement M
 pair-sound-spec =
-    tie.close
-    (tie.spec
-    location-fits-requires
-    vmids-apart-requires
-    holds-nothing-requires
-    returns
-    connection-fits-requires
-    backlog-fits-requires
-    request-fits-requires
-    returns-2)
+    tie.close (tie.spec (search needs) (search needs) (search needs) returns (search needs) (search needs)
+    (search needs) returns-2)

@@ -4,18 +4,6 @@ use borrow.Author.Needs.{needs}
 use Rattle.soundness.proofs.pairs.request_fits.Statement.{statement}
 use Rattle.soundness.proofs.pairs.request_fits.Tie as tie
 
-asks-for-requires : tie.Need-asks-for-requires
-asks-for-requires c κs = search needs
-
-is-running-requires : tie.Need-is-running-requires
-is-running-requires c κs = search needs
-
-is-started-requires : tie.Need-is-started-requires
-is-started-requires c κs = search needs
-
-is-closed-requires : tie.Need-is-closed-requires
-is-closed-requires c κs = search needs
-
 returns : tie.Need-returns
 returns c =
     rw (
@@ -27,5 +15,4 @@ returns c =
 
 pub request-fits-spec : {M : Type 1} → statement M
 request-fits-spec =
-    tie.close
-    (tie.spec asks-for-requires is-running-requires is-started-requires is-closed-requires returns)
+    tie.close (tie.spec (search needs) (search needs) (search needs) (search needs) returns)

@@ -5,12 +5,6 @@ use borrow.Author.Needs.{needs}
 use Rattle.soundness.proofs.pairs.vmids_apart.Statement.{statement}
 use Rattle.soundness.proofs.pairs.vmids_apart.Tie as tie
 
-are-distinct-requires : tie.Need-are-distinct-requires
-are-distinct-requires c κs = search needs
-
-share-none-requires : tie.Need-share-none-requires
-share-none-requires c κs = search needs
-
 returns : tie.Need-returns
 returns c = rw (eq-eqb _ _ (c .before .if1 .taken), c .are-distinct .ensures)
 
@@ -18,4 +12,5 @@ returns-2 : tie.Need-returns-2
 returns-2 c = rw (ne-eqb _ _ (c .before .if1 .left), c .share-none .ensures)
 
 pub vmids-apart-spec : {M : Type 1} → statement M
-vmids-apart-spec = tie.close (tie.spec are-distinct-requires share-none-requires returns returns-2)
+vmids-apart-spec =
+    tie.close (tie.spec (search needs) (search needs) returns returns-2)

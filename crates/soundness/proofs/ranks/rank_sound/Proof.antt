@@ -4,15 +4,6 @@ use borrow.Author.Needs.{needs}
 use Rattle.soundness.proofs.ranks.rank_sound.Statement.{statement}
 use Rattle.soundness.proofs.ranks.rank_sound.Tie as tie
 
-vmids-drawn-requires : tie.Need-vmids-drawn-requires
-vmids-drawn-requires c κs = search needs
-
-request-drawn-requires : tie.Need-request-drawn-requires
-request-drawn-requires c κs = search needs
-
-nothing-with-self-requires : tie.Need-nothing-with-self-requires
-nothing-with-self-requires c κs = search needs
-
 returns : tie.Need-returns
 returns c =
     rw (
@@ -23,5 +14,4 @@ returns c =
 
 pub rank-sound-spec : {M : Type 1} → statement M
 rank-sound-spec =
-    tie.close
-    (tie.spec vmids-drawn-requires request-drawn-requires nothing-with-self-requires returns)
+    tie.close (tie.spec (search needs) (search needs) (search needs) returns)

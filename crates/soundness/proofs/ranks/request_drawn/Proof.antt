@@ -4,21 +4,9 @@ use borrow.Author.Needs.{needs}
 use Rattle.soundness.proofs.ranks.request_drawn.Statement.{statement}
 use Rattle.soundness.proofs.ranks.request_drawn.Tie as tie
 
-enum-told : tie.Need-enum-told
-enum-told c = search needs
-
-enum-known-request : tie.Need-enum-known-request
-enum-known-request c = search needs
-
-is-drawn-requires : tie.Need-is-drawn-requires
-is-drawn-requires c κs = search needs
-
-returns : tie.Need-returns
-returns c = search needs
-
 returns-2 : tie.Need-returns-2
 returns-2 c = rw (c .before .before .before .request .given .1, c .is-drawn .ensures)
 
 pub request-drawn-spec : {M : Type 1} → statement M
 request-drawn-spec =
-    tie.close (tie.spec enum-told enum-known-request is-drawn-requires returns returns-2)
+    tie.close (tie.spec (search needs) (search needs) (search needs) (search needs) returns-2)

@@ -11,9 +11,6 @@ use Rattle.steps.proofs.decode.decode.Tie as tie
 returns : tie.Need-returns
 returns c = let args = c .before .before .args in rw (at-end (args .log .now) (args .at) (c .if1 .taken))
 
-shared-slice-read-kind : tie.Need-shared-slice-read-kind
-shared-slice-read-kind c = search needs
-
 returns-2 : tie.Need-returns-2
 returns-2 c =
     let inside = c .before .before in
@@ -27,15 +24,6 @@ returns-3 c =
     let above = kind-above (getD (args .log .now) (args .at) 0) (c .before .if2 .left) (c .if3 .taken) in
     rw (no-kind (args .log .now) (args .at) (inside .if1 .left) above)
 
-add-body : tie.Need-add-body
-add-body c = search needs
-
-body-length-requires : tie.Need-body-length-requires
-body-length-requires c κs = search needs
-
-sub-if4 : tie.Need-sub-if4
-sub-if4 c = search needs
-
 returns-4 : tie.Need-returns-4
 returns-4 c =
     let known = c .before .before in
@@ -44,12 +32,6 @@ returns-4 c =
     let kind = getD (args .log .now) (args .at) 0 in
     let short : length (args .log .now) < args .at + 1 + bodyLength kind = omega (arith, c .before .body-length .ensures) in
     rw (cut-short (args .log .now) (args .at) (inside .if1 .left) (kind-between kind (known .before .if2 .left) (known .if3 .left)) short)
-
-record-at-requires : tie.Need-record-at-requires
-record-at-requires c κs = search needs
-
-add-t10 : tie.Need-add-t10
-add-t10 c = search needs
 
 returns-5 : tie.Need-returns-5
 returns-5 c =
@@ -67,16 +49,5 @@ returns-5 c =
 
 pub decode-spec : {M : Type 1} → statement M
 decode-spec =
-    tie.close
-    (tie.spec
-    returns
-    shared-slice-read-kind
-    returns-2
-    returns-3
-    add-body
-    body-length-requires
-    sub-if4
-    returns-4
-    record-at-requires
-    add-t10
-    returns-5)
+    tie.close (tie.spec returns (search needs) returns-2 returns-3 (search needs) (search needs) (search needs)
+    returns-4 (search needs) (search needs) returns-5)

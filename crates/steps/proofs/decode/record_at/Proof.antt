@@ -4,42 +4,6 @@ use Rattle.steps.specs.Record.{short-is-record, send-is-record}
 use Rattle.steps.proofs.decode.record_at.Statement.{statement}
 use Rattle.steps.proofs.decode.record_at.Tie as tie
 
-byte-at-requires : tie.Need-byte-at-requires
-byte-at-requires c κs = search needs
-
-add-byte-at : tie.Need-add-byte-at
-add-byte-at c = search needs
-
-byte-at-requires-2 : tie.Need-byte-at-requires-2
-byte-at-requires-2 c κs = search needs
-
-add-byte-at-2 : tie.Need-add-byte-at-2
-add-byte-at-2 c = search needs
-
-byte-at-requires-3 : tie.Need-byte-at-requires-3
-byte-at-requires-3 c κs = search needs
-
-add-byte-at-3 : tie.Need-add-byte-at-3
-add-byte-at-3 c = search needs
-
-byte-at-requires-4 : tie.Need-byte-at-requires-4
-byte-at-requires-4 c κs = search needs
-
-add-byte-at-4 : tie.Need-add-byte-at-4
-add-byte-at-4 c = search needs
-
-byte-at-requires-5 : tie.Need-byte-at-requires-5
-byte-at-requires-5 c κs = search needs
-
-add-byte-at-5 : tie.Need-add-byte-at-5
-add-byte-at-5 c = search needs
-
-byte-at-requires-6 : tie.Need-byte-at-requires-6
-byte-at-requires-6 c κs = search needs
-
-value-of-requires : tie.Need-value-of-requires
-value-of-requires c κs = search needs
-
 returns : tie.Need-returns
 returns c =
     let taken = c .before .before .before .before .before in
@@ -56,9 +20,6 @@ returns c =
       second .before .byte-at .ensures,
     )
 
-short-record-requires : tie.Need-short-record-requires
-short-record-requires c κs = search needs
-
 returns-2 : tie.Need-returns-2
 returns-2 c =
     let left = c .before in
@@ -73,20 +34,6 @@ returns-2 c =
 
 pub record-at-spec : {M : Type 1} → statement M
 record-at-spec =
-    tie.close
-    (tie.spec
-    byte-at-requires
-    add-byte-at
-    byte-at-requires-2
-    add-byte-at-2
-    byte-at-requires-3
-    add-byte-at-3
-    byte-at-requires-4
-    add-byte-at-4
-    byte-at-requires-5
-    add-byte-at-5
-    byte-at-requires-6
-    value-of-requires
-    returns
-    short-record-requires
+    tie.close (tie.spec (search needs) (search needs) (search needs) (search needs) (search needs) (search needs)
+    (search needs) (search needs) (search needs) (search needs) (search needs) (search needs) returns (search needs)
     returns-2)

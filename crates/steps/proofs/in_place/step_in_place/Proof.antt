@@ -11,20 +11,8 @@ use Rattle.steps.proofs.in_place.step_in_place.Tie as tie
 abbrev held : tie.Start → State
 held c = deskOf (c .args .slots .now) (c .args .contents .now) (c .args .roster .now)
 
-decode-requires : tie.Need-decode-requires
-decode-requires c κs = search needs
-
-enum-known-decoded : tie.Need-enum-known-decoded
-enum-known-decoded c = search needs
-
-settle-requires : tie.Need-settle-requires
-settle-requires c κs = search needs
-
 enum-told : tie.Need-enum-told
 enum-told c = search needs
-
-enum-told-2 : tie.Need-enum-told-2
-enum-told-2 c = search needs
 
 returns : tie.Need-returns
 returns c =
@@ -61,13 +49,5 @@ returns-3 c =
 
 pub step-in-place-spec : {M : Type 1} → statement M
 step-in-place-spec =
-    tie.close
-    (tie.spec
-    decode-requires
-    enum-known-decoded
-    settle-requires
-    enum-told
-    enum-told-2
-    returns
-    returns-2
+    tie.close (tie.spec (search needs) (search needs) (search needs) enum-told (search needs) returns returns-2
     returns-3)

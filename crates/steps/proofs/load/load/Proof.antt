@@ -16,9 +16,6 @@ use Rattle.steps.proofs.load.load.Tie as tie
 passed : (c : tie.Else1) → sound (view (c .before .before .args .broker)) ≡ true
 passed c = sym (c .before .is-sound .ensures) ∙ not-false _ (c .if1 .left)
 
-is-sound-requires : tie.Need-is-sound-requires
-is-sound-requires c κs = search needs
-
 returns : tie.Need-returns
 returns c =
     let failed = not-true _ (c .if1 .taken) in
@@ -31,9 +28,6 @@ load-requires c κs =
     let s = view (start .args .broker) in
     let ok = passed test in
     (start .pre .0, (start .pre .1 .0, (facts s ok .mail .few, sound-ranked s ok)))
-
-load-requires-2 : tie.Need-load-requires-2
-load-requires-2 c κs = search needs
 
 returns-2 : tie.Need-returns-2
 returns-2 c =
@@ -52,4 +46,5 @@ returns-2 c =
     }
 
 pub load-spec : {M : Type 1} → statement M
-load-spec = tie.close (tie.spec is-sound-requires returns load-requires load-requires-2 returns-2)
+load-spec =
+    tie.close (tie.spec (search needs) returns load-requires (search needs) returns-2)

@@ -4,12 +4,6 @@ use Rattle.transit.proofs.load.clear.Reads as load-clear-reads′
 use Rattle.steps.proofs.load.open_fresh.Statement.{statement}
 use Rattle.steps.proofs.load.open_fresh.Tie as tie
 
-clear-requires : tie.Need-clear-requires
-clear-requires c κs = search needs
-
-clear-requires-2 : tie.Need-clear-requires-2
-clear-requires-2 c κs = search needs
-
 returns : tie.Need-returns
 returns c =
     let cleared = c .before .before in
@@ -21,4 +15,5 @@ returns c =
     }
 
 pub open-fresh-spec : {M : Type 1} → statement M
-open-fresh-spec = tie.close (tie.spec clear-requires clear-requires-2 returns)
+open-fresh-spec =
+    tie.close (tie.spec (search needs) (search needs) returns)

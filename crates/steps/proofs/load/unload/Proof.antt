@@ -8,12 +8,6 @@ use Rattle.roster.specs.Roster.{ranksOf}
 use Rattle.steps.proofs.load.unload.Statement.{statement}
 use Rattle.steps.proofs.load.unload.Tie as tie
 
-unload-into-requires : tie.Need-unload-into-requires
-unload-into-requires c κs = search needs
-
-unload-requires : tie.Need-unload-requires
-unload-requires c κs = search needs
-
 returns : tie.Need-returns
 returns c =
     let messages = c .before in
@@ -22,4 +16,5 @@ returns c =
     ap (λ (u : Unread). withUnread u (ranksOf (args .roster .now))) (messages .unload-into .ensures)
 
 pub unload-spec : {M : Type 1} → statement M
-unload-spec = tie.close (tie.spec unload-into-requires unload-requires returns)
+unload-spec =
+    tie.close (tie.spec (search needs) (search needs) returns)

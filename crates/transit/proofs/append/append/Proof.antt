@@ -6,9 +6,6 @@ use borrow.Author.Needs.{needs}
 use Rattle.transit.proofs.append.append.Statement.{statement}
 use Rattle.transit.proofs.append.append.Tie as tie
 
-make-room-requires : tie.Need-make-room-requires
-make-room-requires c κs = search needs
-
 put-requires : tie.Need-put-requires
 put-requires c κs =
     let start = c .before .before .before .before .before in
@@ -23,4 +20,5 @@ returns c =
     record { kept = put .kept; same = put .same ∙ rw (roomy .same); pair = put .pair }
 
 pub append-spec : {M : Type 1} → statement M
-append-spec = tie.close (tie.spec make-room-requires put-requires returns)
+append-spec =
+    tie.close (tie.spec (λ c κs. search needs) put-requires returns)

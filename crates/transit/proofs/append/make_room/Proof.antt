@@ -9,16 +9,10 @@ use borrow.Author.Needs.{needs}
 use Rattle.transit.proofs.append.make_room.Statement.{statement}
 use Rattle.transit.proofs.append.make_room.Tie as tie
 
-element-copy-out-tail : tie.Need-element-copy-out-tail
-element-copy-out-tail c = search needs
-
 returns : tie.Need-returns
 returns c =
     let start = c .before .before in
     record { kept = start .pre; same = refl; room = omega (arith, tail-is (start .args .slots .now), c .if1 .taken) }
-
-unload-requires : tie.Need-unload-requires
-unload-requires c κs = search needs
 
 load-requires : tie.Need-load-requires
 load-requires c κs =
@@ -42,4 +36,4 @@ returns-2 c =
 
 pub make-room-spec : {M : Type 1} → statement M
 make-room-spec =
-    tie.close (tie.spec element-copy-out-tail returns unload-requires load-requires returns-2)
+    tie.close (tie.spec (search needs) returns (λ c κs. search needs) load-requires returns-2)

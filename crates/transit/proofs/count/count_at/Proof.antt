@@ -8,27 +8,6 @@ use borrow.Author.Needs.{needs}
 use Rattle.transit.proofs.count.count_at.Statement.{statement}
 use Rattle.transit.proofs.count.count_at.Tie as tie
 
-cast-low : tie.Need-cast-low
-cast-low c = search needs
-
-mul-low : tie.Need-mul-low
-mul-low c = search needs
-
-number-requires : tie.Need-number-requires
-number-requires c κs = search needs
-
-add-t7 : tie.Need-add-t7
-add-t7 c = search needs
-
-cast-t8 : tie.Need-cast-t8
-cast-t8 c = search needs
-
-cast-t9 : tie.Need-cast-t9
-cast-t9 c = search needs
-
-count-hits-requires : tie.Need-count-hits-requires
-count-hits-requires c κs = search needs
-
 returns : tie.Need-returns
 returns c =
     let start = c .before .before .before .before in
@@ -41,5 +20,5 @@ returns c =
 
 pub count-at-spec : {M : Type 1} → statement M
 count-at-spec =
-    tie.close
-    (tie.spec cast-low mul-low number-requires add-t7 cast-t8 cast-t9 count-hits-requires returns)
+    tie.close (tie.spec (search needs) (search needs) (search needs) (search needs) (search needs) (search needs)
+    (search needs) returns)

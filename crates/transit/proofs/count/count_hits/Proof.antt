@@ -3,7 +3,7 @@ use mathlib.Core.Path.{_≡_, refl}
 use Prim.Native.Nat.{_≤_, _-_}
 use native.Mathlib.Numerals.{add-one}
 use native.Mathlib.Omega.{arith}
-use Rattle.transit.specs.Columns.{columnsOf}
+use Rattle.transit.specs.Columns.{columnsOf, SLOTS}
 use Rattle.transit.specs.Pick.{hits}
 use Rattle.transit.specs.Laws.Columns.{pair-at, place-at}
 use Rattle.transit.specs.Laws.Passes.{one-at-most, hits-few}
@@ -12,35 +12,14 @@ use Rattle.transit.proofs.count.count_hits.Statement.{statement}
 use Rattle.transit.proofs.count.count_hits.Tie as tie
 
 abbrev Inv-loop : tie.InvT-loop
-Inv-loop w slots n₀ i₀ n i = (i ≤ 2048) × (n ≡ hits w (columnsOf slots) i)
+Inv-loop w slots n₀ i₀ n i = (i ≤ SLOTS) × (n ≡ hits w (columnsOf slots) i)
 
 abbrev μ-loop : tie.MeasureT-loop
-μ-loop w slots n₀ i₀ n i = 2048 - i
+μ-loop w slots n₀ i₀ n i = SLOTS - i
 
 loop-holds : tie.Need-loop-holds Inv-loop μ-loop
 unfolding hits
 loop-holds c = (omega arith, refl)
-
-mul-picked : tie.Need-mul-picked Inv-loop μ-loop
-mul-picked c = search needs
-
-element-copy-out-picked : tie.Need-element-copy-out-picked Inv-loop μ-loop
-element-copy-out-picked c = search needs
-
-add-picked : tie.Need-add-picked Inv-loop μ-loop
-add-picked c = search needs
-
-mul-picked-2 : tie.Need-mul-picked-2 Inv-loop μ-loop
-mul-picked-2 c = search needs
-
-element-copy-out-picked-2 : tie.Need-element-copy-out-picked-2 Inv-loop μ-loop
-element-copy-out-picked-2 c = search needs
-
-picked-requires : tie.Need-picked-requires Inv-loop μ-loop
-picked-requires c κs = search needs
-
-one-if-requires : tie.Need-one-if-requires Inv-loop μ-loop
-one-if-requires c κs = search needs
 
 add-n : tie.Need-add-n Inv-loop μ-loop
 add-n c =
@@ -48,12 +27,6 @@ add-n c =
     let a = c .before .before .before .before .before .before .args in
     let few = hits-few (a .w) (columnsOf (a .slots .now)) (here .i) in
     omega (arith, here .inv .1, c .one-if .ensures, one-at-most (c .before .picked .result))
-
-add-i : tie.Need-add-i Inv-loop μ-loop
-add-i c = search needs
-
-loop-less : tie.Need-loop-less Inv-loop μ-loop
-loop-less c = search needs
 
 loop-again : tie.Need-loop-again Inv-loop μ-loop
 unfolding hits
@@ -74,25 +47,10 @@ loop-again c =
 returns : tie.Need-returns Inv-loop μ-loop
 returns c =
     let here = c .before .loop in
-    let end : here .i ≡ 2048 = omega arith in
+    let end : here .i ≡ SLOTS = omega arith in
     rw end at (here .inv .1)
 
 pub count-hits-spec : {M : Type 1} → statement M
 count-hits-spec =
-    tie.close
-    (tie.spec
-    Inv-loop
-    μ-loop
-    loop-holds
-    mul-picked
-    element-copy-out-picked
-    add-picked
-    mul-picked-2
-    element-copy-out-picked-2
-    picked-requires
-    one-if-requires
-    add-n
-    add-i
-    loop-less
-    loop-again
-    returns)
+    tie.close (tie.spec Inv-loop μ-loop loop-holds (search needs) (search needs) (search needs) (search needs)
+    (search needs) (search needs) (search needs) add-n (search needs) (search needs) loop-again returns)

@@ -8,18 +8,6 @@ use Rattle.transit.specs.declared.Selection.the-variants.{ToAt}
 use Rattle.transit.proofs.count.count_to.Statement.{statement}
 use Rattle.transit.proofs.count.count_to.Tie as tie
 
-number-requires : tie.Need-number-requires
-number-requires c κs = search needs
-
-cast-t5 : tie.Need-cast-t5
-cast-t5 c = search needs
-
-cast-t6 : tie.Need-cast-t6
-cast-t6 c = search needs
-
-count-hits-requires : tie.Need-count-hits-requires
-count-hits-requires c κs = search needs
-
 returns : tie.Need-returns
 returns c =
     let start = c .before .before .before in
@@ -30,4 +18,5 @@ returns c =
     (λ p n _ live placed. picked-to p n live placed (a .r) (a .place))
 
 pub count-to-spec : {M : Type 1} → statement M
-count-to-spec = tie.close (tie.spec number-requires cast-t5 cast-t6 count-hits-requires returns)
+count-to-spec =
+    tie.close (tie.spec (search needs) (search needs) (search needs) (search needs) returns)

@@ -6,18 +6,6 @@ use borrow.Author.Needs.{needs}
 use Rattle.transit.proofs.count.unread_between.Statement.{statement}
 use Rattle.transit.proofs.count.unread_between.Tie as tie
 
-pair-of-requires : tie.Need-pair-of-requires
-pair-of-requires c κs = search needs
-
-add-result : tie.Need-add-result
-add-result c = search needs
-
-mul-result : tie.Need-mul-result
-mul-result c = search needs
-
-element-copy-out-result : tie.Need-element-copy-out-result
-element-copy-out-result c = search needs
-
 returns : tie.Need-returns
 returns c =
     let s = c .before .before .before .before .before .before in
@@ -37,12 +25,4 @@ returns-3 c =
 
 pub unread-between-spec : {M : Type 1} → statement M
 unread-between-spec =
-    tie.close
-    (tie.spec
-    pair-of-requires
-    add-result
-    mul-result
-    element-copy-out-result
-    returns
-    returns-2
-    returns-3)
+    tie.close (tie.spec (search needs) (search needs) (search needs) (search needs) returns returns-2 returns-3)

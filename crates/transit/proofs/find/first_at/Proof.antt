@@ -2,7 +2,7 @@
 use mathlib.Core.Path.{sym, ap}
 use Prim.Native.Nat.{_<_}
 use native.Mathlib.Omega.{arith}
-use Rattle.transit.specs.Columns.{columnsOf}
+use Rattle.transit.specs.Columns.{columnsOf, SLOTS}
 use Rattle.transit.specs.Search.{Reached}
 use Rattle.transit.specs.Message.{placeNumber}
 use Rattle.transit.specs.Slots.{pairOf}
@@ -33,39 +33,6 @@ returns-2 c =
     let a = start .args in
     sym (ap head (none-in (a .slots .now) (a .contents .now) _ (λ m h. rw (between-past-receiver (a .a) (a .b) m (c .if2 .taken) h))))
 
-pair-of-requires : tie.Need-pair-of-requires
-pair-of-requires c κs = search needs
-
-number-requires : tie.Need-number-requires
-number-requires c κs = search needs
-
-cast-seek : tie.Need-cast-seek
-cast-seek c = search needs
-
-seek-requires : tie.Need-seek-requires
-seek-requires c κs = search needs
-
-mul-message-of : tie.Need-mul-message-of
-mul-message-of c = search needs
-
-element-copy-out-message-of : tie.Need-element-copy-out-message-of
-element-copy-out-message-of c = search needs
-
-add-message-of : tie.Need-add-message-of
-add-message-of c = search needs
-
-mul-message-of-2 : tie.Need-mul-message-of-2
-mul-message-of-2 c = search needs
-
-element-copy-out-message-of-2 : tie.Need-element-copy-out-message-of-2
-element-copy-out-message-of-2 c = search needs
-
-mul-message-of-3 : tie.Need-mul-message-of-3
-mul-message-of-3 c = search needs
-
-element-copy-out-message-of-3 : tie.Need-element-copy-out-message-of-3
-element-copy-out-message-of-3 c = search needs
-
 message-of-requires : tie.Need-message-of-requires
 message-of-requires c κs =
     let h = c .before .before .before .before in
@@ -74,7 +41,7 @@ message-of-requires c κs =
     let small-a = h .before .before .before .before .before .if1 .left in
     let small-b = h .before .before .before .if2 .left in
     let at = h .seek .result in
-    let inside : at < 2048 = omega arith in
+    let inside : at < SLOTS = omega arith in
     rw (pair-at (a .slots .now) at inside) at
     (search-live (start .pre) (a .a) (a .b) small-a small-b (a .place) (is-reached h) inside)
 
@@ -86,7 +53,7 @@ returns-3 c =
     let small-a = h .before .before .before .before .before .if1 .left in
     let small-b = h .before .before .before .if2 .left in
     let at = h .seek .result in
-    let inside : at < 2048 = omega arith in
+    let inside : at < SLOTS = omega arith in
     let found = search-found (start .pre) (a .a) (a .b) small-a small-b (a .place) (is-reached h) inside in
     rw (c .message-of .ensures) (sym (rw (pair-at (a .slots .now) at inside, place-at (a .slots .now) at inside) at found))
 
@@ -101,21 +68,6 @@ returns-4 c =
 
 pub first-at-spec : {M : Type 1} → statement M
 first-at-spec =
-    tie.close
-    (tie.spec
-    returns
-    returns-2
-    pair-of-requires
-    number-requires
-    cast-seek
-    seek-requires
-    mul-message-of
-    element-copy-out-message-of
-    add-message-of
-    mul-message-of-2
-    element-copy-out-message-of-2
-    mul-message-of-3
-    element-copy-out-message-of-3
-    message-of-requires
-    returns-3
-    returns-4)
+    tie.close (tie.spec returns returns-2 (search needs) (search needs) (search needs) (search needs) (search needs)
+    (search needs) (search needs) (search needs) (search needs) (search needs) (search needs) message-of-requires
+    returns-3 returns-4)

@@ -2,7 +2,7 @@
 use mathlib.Core.Path.{sym, ap}
 use Prim.Native.Nat.{_<_}
 use native.Mathlib.Omega.{arith}
-use Rattle.transit.specs.Columns.{columnsOf}
+use Rattle.transit.specs.Columns.{columnsOf, SLOTS}
 use Rattle.transit.specs.Search.{Oldest}
 use Rattle.transit.specs.Unread.{head}
 use Rattle.transit.specs.Laws.Columns.{pair-at, place-at}
@@ -11,10 +11,11 @@ use Rattle.transit.specs.Laws.Oldest.{oldest-nothing, oldest-live, oldes
 use borrow.Author.Needs.{needs}
 use Rattle.transit.proofs.find.first_to.Statement.{statement}
 use Rattle.transit.proofs.find.first_to.Tie as tie
+use Rattle.transit.specs.Message.{ranks}
 
 -- The slot found is the oldest to the receiver.
 is-oldest : (h : tie.After-wide) → let a = h .before .before .before .before .before .args in
-    Oldest (columnsOf (a .slots .now)) (a .r .0) 16 (h .wide .result)
+    Oldest (columnsOf (a .slots .now)) (a .r .0) ranks (h .wide .result)
 is-oldest h = rw (h .wide .ensures) (h .before .oldest .ensures)
 
 returns : tie.Need-returns
@@ -23,36 +24,6 @@ returns c =
     let a = start .args in
     sym (ap head (none-in (a .slots .now) (a .contents .now) _ (λ m. receiver-past (a .r) m (c .if1 .taken))))
 
-cast-oldest : tie.Need-cast-oldest
-cast-oldest c = search needs
-
-oldest-requires : tie.Need-oldest-requires
-oldest-requires c κs = search needs
-
-wide-requires : tie.Need-wide-requires
-wide-requires c κs = search needs
-
-mul-message-of : tie.Need-mul-message-of
-mul-message-of c = search needs
-
-element-copy-out-message-of : tie.Need-element-copy-out-message-of
-element-copy-out-message-of c = search needs
-
-add-message-of : tie.Need-add-message-of
-add-message-of c = search needs
-
-mul-message-of-2 : tie.Need-mul-message-of-2
-mul-message-of-2 c = search needs
-
-element-copy-out-message-of-2 : tie.Need-element-copy-out-message-of-2
-element-copy-out-message-of-2 c = search needs
-
-mul-message-of-3 : tie.Need-mul-message-of-3
-mul-message-of-3 c = search needs
-
-element-copy-out-message-of-3 : tie.Need-element-copy-out-message-of-3
-element-copy-out-message-of-3 c = search needs
-
 message-of-requires : tie.Need-message-of-requires
 message-of-requires c κs =
     let h = c .before .before .before .before in
@@ -60,7 +31,7 @@ message-of-requires c κs =
     let a = start .args in
     let small = h .before .before .before .if1 .left in
     let at = h .wide .result in
-    let inside : at < 2048 = omega arith in
+    let inside : at < SLOTS = omega arith in
     rw (pair-at (a .slots .now) at inside) at (oldest-live (start .pre) (a .r) small (is-oldest h) inside)
 
 returns-2 : tie.Need-returns-2
@@ -70,7 +41,7 @@ returns-2 c =
     let a = start .args in
     let small = h .before .before .before .if1 .left in
     let at = h .wide .result in
-    let inside : at < 2048 = omega arith in
+    let inside : at < SLOTS = omega arith in
     let found = oldest-found (start .pre) (a .r) small (is-oldest h) inside in
     rw (c .message-of .ensures) (sym (rw (pair-at (a .slots .now) at inside, place-at (a .slots .now) at inside) at found))
 
@@ -84,19 +55,5 @@ returns-3 c =
 
 pub first-to-spec : {M : Type 1} → statement M
 first-to-spec =
-    tie.close
-    (tie.spec
-    returns
-    cast-oldest
-    oldest-requires
-    wide-requires
-    mul-message-of
-    element-copy-out-message-of
-    add-message-of
-    mul-message-of-2
-    element-copy-out-message-of-2
-    mul-message-of-3
-    element-copy-out-message-of-3
-    message-of-requires
-    returns-2
-    returns-3)
+    tie.close (tie.spec returns (search needs) (search needs) (search needs) (search needs) (search needs)
+    (search needs) (search needs) (search needs) (search needs) (search needs) message-of-requires returns-2 returns-3)

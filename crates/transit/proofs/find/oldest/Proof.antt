@@ -10,36 +10,16 @@ use Rattle.transit.specs.Laws.Oldest.{oldest-start, oldest-less, oldest-
 use borrow.Author.Needs.{needs}
 use Rattle.transit.proofs.find.oldest.Statement.{statement}
 use Rattle.transit.proofs.find.oldest.Tie as tie
+use Rattle.transit.specs.Message.{ranks}
 
 abbrev Inv-loop : tie.InvT-loop
-Inv-loop r slots best₀ s₀ best s = (s ≤ 16) × Oldest (columnsOf slots) r s best
+Inv-loop r slots best₀ s₀ best s = (s ≤ ranks) × Oldest (columnsOf slots) r s best
 
 abbrev μ-loop : tie.MeasureT-loop
-μ-loop r slots best₀ s₀ best s = 16 - s
+μ-loop r slots best₀ s₀ best s = ranks - s
 
 loop-holds : tie.Need-loop-holds Inv-loop μ-loop
 loop-holds c = (omega arith, oldest-start (columnsOf (c .args .slots .now)) (c .args .r))
-
-mul-first : tie.Need-mul-first Inv-loop μ-loop
-mul-first c = search needs
-
-add-first : tie.Need-add-first Inv-loop μ-loop
-add-first c = search needs
-
-add-first-2 : tie.Need-add-first-2 Inv-loop μ-loop
-add-first-2 c = search needs
-
-mul-first-2 : tie.Need-mul-first-2 Inv-loop μ-loop
-mul-first-2 c = search needs
-
-element-copy-out-first : tie.Need-element-copy-out-first Inv-loop μ-loop
-element-copy-out-first c = search needs
-
-add-s : tie.Need-add-s Inv-loop μ-loop
-add-s c = search needs
-
-loop-less : tie.Need-loop-less Inv-loop μ-loop
-loop-less c = search needs
 
 loop-again : tie.Need-loop-again Inv-loop μ-loop
 loop-again c =
@@ -47,7 +27,7 @@ loop-again c =
     let a = head .before .args in
     let s = head .loop .s in
     let cols = columnsOf (a .slots .now) in
-    let first = first-at (a .slots .now) (16 * s + a .r) (omega arith) in (
+    let first = first-at (a .slots .now) (ranks * s + a .r) (omega arith) in (
       omega arith,
       ⊎-elim
           (λ w. rw (w .1, ← first) (oldest-less cols (a .r) (head .loop .inv .1) (omega (arith, w .0 .taken))))
@@ -58,22 +38,10 @@ loop-again c =
 returns : tie.Need-returns Inv-loop μ-loop
 returns c =
     let here = c .before .loop in
-    let end : here .s ≡ 16 = omega arith in
+    let end : here .s ≡ ranks = omega arith in
     rw end at (here .inv .1)
 
 pub oldest-spec : {M : Type 1} → statement M
 oldest-spec =
-    tie.close
-    (tie.spec
-    Inv-loop
-    μ-loop
-    loop-holds
-    mul-first
-    add-first
-    add-first-2
-    mul-first-2
-    element-copy-out-first
-    add-s
-    loop-less
-    loop-again
-    returns)
+    tie.close (tie.spec Inv-loop μ-loop loop-holds (search needs) (search needs) (search needs) (search needs)
+    (search needs) (search needs) (search needs) loop-again returns)

@@ -16,4 +16,5 @@ returns-4 : tie.Need-returns-4
 returns-4 c = rw (ne-eqb _ _ (c .before .before .if1 .left), ne-eqb _ _ (c .before .if2 .left), ne-eqb _ _ (c .if3 .left))
 
 pub place-of-spec : {M : Type 1} → statement M
-place-of-spec = tie.close (tie.spec returns returns-2 returns-3 returns-4)
+place-of-spec =
+    tie.close (tie.spec returns returns-2 returns-3 returns-4)

@@ -17,6 +17,7 @@ use Rattle.transit.proofs.Slots.{slots, blank}
 use borrow.Author.Needs.{needs}
 use Rattle.transit.proofs.load.load.Statement.{statement}
 use Rattle.transit.proofs.load.load.Tie as tie
+use Rattle.transit.specs.Message.{ranks}
 
 abbrev Inv-loop : tie.InvT-loop
 Inv-loop slots₀ contents₀ t end i₀ slots contents i = (i ≤ end) × Loaded (take i (unreadOf t .messages)) slots contents
@@ -26,7 +27,7 @@ abbrev μ-loop : tie.MeasureT-loop
 
 -- The next message: its ranks, and the messages up to it.
 next-one : (h : tie.At-loop Inv-loop μ-loop) → let t = h .before .before .before .args .t1 in let i = h .loop .i in i < t .count
-    → (getD (t .messages) i blank .sender .0 < 16) × (getD (t .messages) i blank .receiver .0 < 16)
+    → (getD (t .messages) i blank .sender .0 < ranks) × (getD (t .messages) i blank .receiver .0 < ranks)
     × (take (i + 1) (unreadOf t .messages) ≡ take i (unreadOf t .messages) ++ (getD (t .messages) i blank ∷ []))
 next-one h before =
     let start = h .before .before .before in
@@ -37,8 +38,8 @@ next-one h before =
     let same : getD l i blank ≡ getD (t .messages) i blank = getD-take (t .count) (t .messages) i blank before in
     let m = getD (t .messages) i blank in
     let both-are = rw same at (every-at ranked l i blank (start .pre .1 .1 .1) inside) in (
-      ltb-true (m .sender .0) 16 (both-left (ltb (m .sender .0) 16) _ both-are),
-      ltb-true (m .receiver .0) 16 (both-right (ltb (m .sender .0) 16) _ both-are),
+      ltb-true (m .sender .0) ranks (both-left (ltb (m .sender .0) ranks) _ both-are),
+      ltb-true (m .receiver .0) ranks (both-right (ltb (m .sender .0) ranks) _ both-are),
       rw (add-one, take-suc l i blank inside, same),
     )
 
@@ -47,12 +48,6 @@ clear-requires c κs = c .before .pre .0
 
 loop-holds : tie.Need-loop-holds Inv-loop μ-loop
 loop-holds c = (omega arith, c .clear .ensures (c .before .before .args .contents .now) (c .before .before .pre .1 .0))
-
-mul-m : tie.Need-mul-m Inv-loop μ-loop
-mul-m c = search needs
-
-element-copy-out-m : tie.Need-element-copy-out-m Inv-loop μ-loop
-element-copy-out-m c = search needs
 
 put-requires : tie.Need-put-requires Inv-loop μ-loop
 put-requires c κs =
@@ -63,12 +58,6 @@ put-requires c κs =
     let few = length-take (h .loop .i) (unreadOf (start .args .t1) .messages) in
     let limited = start .pre .1 .1 .0 in
     (held .kept, (omega (arith, held .packed), (omega (arith, ap length (held .same)), (n .0, n .1))))
-
-add-i : tie.Need-add-i Inv-loop μ-loop
-add-i c = search needs
-
-loop-less : tie.Need-loop-less Inv-loop μ-loop
-loop-less c = search needs
 
 loop-again : tie.Need-loop-again Inv-loop μ-loop
 loop-again c =
@@ -94,16 +83,5 @@ returns c =
 
 pub load-spec : {M : Type 1} → statement M
 load-spec =
-    tie.close
-    (tie.spec
-    Inv-loop
-    μ-loop
-    clear-requires
-    loop-holds
-    mul-m
-    element-copy-out-m
-    put-requires
-    add-i
-    loop-less
-    loop-again
-    returns)
+    tie.close (tie.spec Inv-loop μ-loop clear-requires loop-holds (search needs) (search needs) put-requires
+    (search needs) (search needs) loop-again returns)

@@ -7,7 +7,7 @@ use native.Mathlib.Numerals.{add-one}
 use native.Mathlib.Omega.{arith}
 use lib.ListN.{length, getD, take, length-set, length-append}
 use lib.Seq.{take-suc-set}
-use Rattle.transit.specs.Columns.{columnsOf, TAIL}
+use Rattle.transit.specs.Columns.{columnsOf, TAIL, SLOTS}
 use Rattle.transit.specs.Slots.{held, messageAt}
 use Rattle.transit.specs.Mail.{messagesIn}
 use Rattle.transit.specs.Laws.Columns.{column-sizes, pair-at, place-at, tail-is}
@@ -16,6 +16,7 @@ use Rattle.transit.proofs.Slots.{slots}
 use borrow.Author.Needs.{needs}
 use Rattle.transit.proofs.load.unload_into.Statement.{statement}
 use Rattle.transit.proofs.load.unload_into.Tie as tie
+use Rattle.transit.specs.Message.{cells}
 
 abbrev Inv-loop : tie.InvT-loop
 Inv-loop slots contents value₀ end n₀ i₀ value n i =
@@ -27,14 +28,14 @@ abbrev μ-loop : tie.MeasureT-loop
 μ-loop slots contents value₀ end n₀ i₀ value n i = end - i
 
 -- The tail is at most the number of slots.
-tail-within : (h : tie.After-end Inv-loop μ-loop) → getD (h .before .args .slots .now) TAIL 0 ≤ 2048
+tail-within : (h : tie.After-end Inv-loop μ-loop) → getD (h .before .args .slots .now) TAIL 0 ≤ SLOTS
 tail-within h =
     let start = h .before in
     omega (arith, start .pre .within, tail-is (start .args .slots .now))
 
 -- At a live slot the value has room.
 room : (h : tie.At-loop Inv-loop μ-loop) → let s = h .before .before .args .slots .now in
-    h .loop .i < getD s TAIL 0 → getD s (h .loop .i) 0 < 256 → h .loop .n < 1024
+    h .loop .i < getD s TAIL 0 → getD s (h .loop .i) 0 < cells → h .loop .n < 1024
 unfolding messagesIn
 room h before live =
     let start = h .before .before in
@@ -43,13 +44,10 @@ room h before live =
     let i = h .loop .i in
     let c = columnsOf s in
     let f = messageAt (c .places) v in
-    let inside : i < 2048 = omega (arith, tail-within (h .before)) in
+    let inside : i < SLOTS = omega (arith, tail-within (h .before)) in
     let z = column-sizes s (start .pre .slots-long) in
     let more = held-live f (c .pairs) i (omega (arith, z .pairs-long)) (omega (arith, pair-at s i inside)) in
     omega (arith, simp length-append at (ap length more), held-part f (c .pairs) (i + 1), start .pre .few, h .loop .inv .2)
-
-element-copy-out-end : tie.Need-element-copy-out-end Inv-loop μ-loop
-element-copy-out-end c = search needs
 
 cast-end : tie.Need-cast-end Inv-loop μ-loop
 cast-end c = omega (arith, tail-within c)
@@ -78,9 +76,6 @@ mul-message-of-2 c = omega (arith, tail-within (c .before .before .before .befor
 element-copy-out-message-of-2 : tie.Need-element-copy-out-message-of-2 Inv-loop μ-loop
 element-copy-out-message-of-2 c = omega (arith, tail-within (c .before .before .before .before .before))
 
-message-of-requires : tie.Need-message-of-requires Inv-loop μ-loop
-message-of-requires c κs = search needs
-
 mul-m : tie.Need-mul-m Inv-loop μ-loop
 mul-m c = omega (arith, room (c .before .before .before .before .before .before) (omega arith) (omega arith))
 
@@ -92,9 +87,6 @@ add-n c = omega (arith, room (c .before .before .before .before .before .before)
 
 add-i : tie.Need-add-i Inv-loop μ-loop
 add-i c = omega (arith, tail-within (c .before .before .before .before))
-
-loop-less : tie.Need-loop-less Inv-loop μ-loop
-loop-less c = search needs
 
 loop-again : tie.Need-loop-again Inv-loop μ-loop
 loop-again c =
@@ -108,7 +100,7 @@ loop-again c =
     let inv = head .loop .inv in
     let t = head .loop .value in
     let n = head .loop .n in
-    let inside : i < 2048 = omega (arith, tail-within (head .before)) in
+    let inside : i < SLOTS = omega (arith, tail-within (head .before)) in
     let fits : i < length (cols .pairs) = omega (arith, column-sizes s (start .pre .slots-long) .pairs-long) in
     let pair = pair-at s i inside in
     ⊎-elim
@@ -141,25 +133,6 @@ returns c =
 
 pub unload-into-spec : {M : Type 1} → statement M
 unload-into-spec =
-    tie.close
-    (tie.spec
-    Inv-loop
-    μ-loop
-    element-copy-out-end
-    cast-end
-    loop-holds
-    mul-pair
-    element-copy-out-pair
-    add-message-of
-    mul-message-of
-    element-copy-out-message-of
-    mul-message-of-2
-    element-copy-out-message-of-2
-    message-of-requires
-    mul-m
-    element-set-from-m
-    add-n
-    add-i
-    loop-less
-    loop-again
-    returns)
+    tie.close (tie.spec Inv-loop μ-loop (search needs) cast-end loop-holds mul-pair element-copy-out-pair add-message-of
+    mul-message-of element-copy-out-message-of mul-message-of-2 element-copy-out-message-of-2 (search needs) mul-m
+    element-set-from-m add-n add-i (search needs) loop-again returns)

@@ -7,33 +7,6 @@ use borrow.Author.Needs.{needs}
 use Rattle.transit.proofs.relabel.relabel_between.Statement.{statement}
 use Rattle.transit.proofs.relabel.relabel_between.Tie as tie
 
-cast-low : tie.Need-cast-low
-cast-low c = search needs
-
-mul-low : tie.Need-mul-low
-mul-low c = search needs
-
-number-requires : tie.Need-number-requires
-number-requires c κs = search needs
-
-number-requires-2 : tie.Need-number-requires-2
-number-requires-2 c κs = search needs
-
-add-t9 : tie.Need-add-t9
-add-t9 c = search needs
-
-cast-t10 : tie.Need-cast-t10
-cast-t10 c = search needs
-
-cast-t11 : tie.Need-cast-t11
-cast-t11 c = search needs
-
-cast-pass : tie.Need-cast-pass
-cast-pass c = search needs
-
-pass-requires : tie.Need-pass-requires
-pass-requires c κs = search needs
-
 returns : tie.Need-returns
 returns c =
     let start = c .before .before .before .before .before .before in
@@ -48,15 +21,5 @@ returns c =
 
 pub relabel-between-spec : {M : Type 1} → statement M
 relabel-between-spec =
-    tie.close
-    (tie.spec
-    cast-low
-    mul-low
-    number-requires
-    number-requires-2
-    add-t9
-    cast-t10
-    cast-t11
-    cast-pass
-    pass-requires
-    returns)
+    tie.close (tie.spec (search needs) (search needs) (search needs) (search needs) (search needs) (search needs)
+    (search needs) (search needs) (search needs) returns)

@@ -15,33 +15,6 @@ is-reached : (h : tie.After-seek) → let a = h .before .before .before .before 
 is-reached h x =
     rw (h .before .before .before .before .pair-of .ensures, h .before .before .before .number .ensures) at (h .seek .ensures x)
 
-pair-of-requires : tie.Need-pair-of-requires
-pair-of-requires c κs = search needs
-
-number-requires : tie.Need-number-requires
-number-requires c κs = search needs
-
-number-requires-2 : tie.Need-number-requires-2
-number-requires-2 c κs = search needs
-
-cast-seek : tie.Need-cast-seek
-cast-seek c = search needs
-
-seek-requires : tie.Need-seek-requires
-seek-requires c κs = search needs
-
-cast-slots : tie.Need-cast-slots
-cast-slots c = search needs
-
-add-slots : tie.Need-add-slots
-add-slots c = search needs
-
-mul-slots : tie.Need-mul-slots
-mul-slots c = search needs
-
-element-write-slots : tie.Need-element-write-slots
-element-write-slots c = search needs
-
 returns : tie.Need-returns
 returns c =
     let h = c .before in
@@ -62,16 +35,5 @@ returns-2 c =
 
 pub relabel-first-spec : {M : Type 1} → statement M
 relabel-first-spec =
-    tie.close
-    (tie.spec
-    pair-of-requires
-    number-requires
-    number-requires-2
-    cast-seek
-    seek-requires
-    cast-slots
-    add-slots
-    mul-slots
-    element-write-slots
-    returns
-    returns-2)
+    tie.close (tie.spec (search needs) (search needs) (search needs) (search needs) (search needs) (search needs)
+    (search needs) (search needs) (search needs) returns returns-2)

@@ -7,24 +7,6 @@ use borrow.Author.Needs.{needs}
 use Rattle.transit.proofs.relabel.relabel_to.Statement.{statement}
 use Rattle.transit.proofs.relabel.relabel_to.Tie as tie
 
-number-requires : tie.Need-number-requires
-number-requires c κs = search needs
-
-number-requires-2 : tie.Need-number-requires-2
-number-requires-2 c κs = search needs
-
-cast-t7 : tie.Need-cast-t7
-cast-t7 c = search needs
-
-cast-t8 : tie.Need-cast-t8
-cast-t8 c = search needs
-
-cast-pass : tie.Need-cast-pass
-cast-pass c = search needs
-
-pass-requires : tie.Need-pass-requires
-pass-requires c κs = search needs
-
 returns : tie.Need-returns
 returns c =
     let start = c .before .before .before .before .before in
@@ -38,5 +20,5 @@ returns c =
 
 pub relabel-to-spec : {M : Type 1} → statement M
 relabel-to-spec =
-    tie.close
-    (tie.spec number-requires number-requires-2 cast-t7 cast-t8 cast-pass pass-requires returns)
+    tie.close (tie.spec (search needs) (search needs) (search needs) (search needs) (search needs) (search needs)
+    returns)

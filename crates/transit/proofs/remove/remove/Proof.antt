@@ -2,7 +2,7 @@
 use Prim.Native.Nat.{_+_, _<_, _≤_}
 use native.Mathlib.Omega.{arith}
 use lib.ListN.{getD}
-use Rattle.transit.specs.Columns.{FIRST, COUNT, UNREAD}
+use Rattle.transit.specs.Columns.{FIRST, COUNT, UNREAD, SLOTS}
 use Rattle.transit.specs.Laws.Left.{at-inside, count-some, unread-some, has-left}
 use borrow.Author.Needs.{needs}
 use Rattle.transit.proofs.remove.remove.Statement.{statement}
@@ -12,7 +12,7 @@ use Rattle.transit.proofs.remove.remove.Lts as lts
 
 -- The pair's first slot is one, and the pair's count and the number of unread are at least 1.
 reads-inside : (h : tie.After-pair-of) → let s = h .before .args .slots .now in let p = h .pair-of .result in
-    (getD s (FIRST + p) 0 < 2048) × (1 ≤ getD s (COUNT + p) 0) × (1 ≤ getD s UNREAD 0)
+    (getD s (FIRST + p) 0 < SLOTS) × (1 ≤ getD s (COUNT + p) 0) × (1 ≤ getD s UNREAD 0)
 reads-inside h =
     let a = h .before .args in
     let pre = h .before .pre in
@@ -21,18 +21,6 @@ reads-inside h =
       count-some (a .a) (a .b) (pre .0) (pre .1 .0) (pre .1 .1 .0) (pre .1 .1 .1),
       unread-some (a .a) (a .b) (pre .0) (pre .1 .0) (pre .1 .1 .0) (pre .1 .1 .1),
     )
-
-pair-of-requires : tie.Need-pair-of-requires
-pair-of-requires c κs = search needs
-
-add-at : tie.Need-add-at
-add-at c = search needs
-
-mul-at : tie.Need-mul-at
-mul-at c = search needs
-
-element-copy-out-at : tie.Need-element-copy-out-at
-element-copy-out-at c = search needs
 
 cast-at : tie.Need-cast-at
 cast-at c = omega (arith, reads-inside (c .before) .0)
@@ -52,20 +40,8 @@ mul-next c = omega (arith, reads-inside (c .before .before) .0)
 element-copy-out-next : tie.Need-element-copy-out-next
 element-copy-out-next c = omega (arith, reads-inside (c .before .before) .0)
 
-add-left : tie.Need-add-left
-add-left c = search needs
-
-mul-left : tie.Need-mul-left
-mul-left c = search needs
-
-element-copy-out-left : tie.Need-element-copy-out-left
-element-copy-out-left c = search needs
-
 sub-left : tie.Need-sub-left
 sub-left c = omega (arith, reads-inside (c .before .before .before .before) .1)
-
-element-copy-out-unread : tie.Need-element-copy-out-unread
-element-copy-out-unread c = search needs
 
 sub-unread : tie.Need-sub-unread
 sub-unread c = omega (arith, reads-inside (c .before .before .before .before .before) .2)
@@ -76,27 +52,6 @@ mul-slots c = omega (arith, reads-inside (c .before .before .before .before .bef
 element-write-slots : tie.Need-element-write-slots
 element-write-slots c = omega (arith, reads-inside (c .before .before .before .before .before) .0)
 
-add-slots : tie.Need-add-slots
-add-slots c = search needs
-
-mul-slots-2 : tie.Need-mul-slots-2
-mul-slots-2 c = search needs
-
-element-write-slots-2 : tie.Need-element-write-slots-2
-element-write-slots-2 c = search needs
-
-add-slots-2 : tie.Need-add-slots-2
-add-slots-2 c = search needs
-
-mul-slots-3 : tie.Need-mul-slots-3
-mul-slots-3 c = search needs
-
-element-write-slots-3 : tie.Need-element-write-slots-3
-element-write-slots-3 c = search needs
-
-element-write-slots-4 : tie.Need-element-write-slots-4
-element-write-slots-4 c = search needs
-
 returns : tie.Need-returns
 returns c =
     let h = c .before .before .before .before .before in
@@ -106,31 +61,7 @@ returns c =
 
 pub remove-spec : {M : Type 1} → statement M
 remove-spec =
-    tie.close
-    (tie.spec
-    pair-of-requires
-    add-at
-    mul-at
-    element-copy-out-at
-    cast-at
-    mul-value
-    element-copy-out-value
-    add-next
-    mul-next
-    element-copy-out-next
-    add-left
-    mul-left
-    element-copy-out-left
-    sub-left
-    element-copy-out-unread
-    sub-unread
-    mul-slots
-    element-write-slots
-    add-slots
-    mul-slots-2
-    element-write-slots-2
-    add-slots-2
-    mul-slots-3
-    element-write-slots-3
-    element-write-slots-4
-    returns)
+    tie.close (tie.spec (search needs) (search needs) (search needs) (search needs) cast-at mul-value
+    element-copy-out-value add-next mul-next element-copy-out-next (search needs) (search needs) (search needs) sub-left
+    (search needs) sub-unread mul-slots element-write-slots (search needs) (search needs) (search needs) (search needs)
+    (search needs) (search needs) (search needs) returns)

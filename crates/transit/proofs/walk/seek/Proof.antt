@@ -2,7 +2,7 @@
 use mathlib.Core.Path.{_∙_, sym}
 use Prim.Native.Nat.{_-_}
 use native.Mathlib.Omega.{arith}
-use Rattle.transit.specs.Columns.{columnsOf}
+use Rattle.transit.specs.Columns.{columnsOf, SLOTS}
 use Rattle.transit.specs.Index.{Index}
 use Rattle.transit.specs.Search.{Walked}
 use Rattle.transit.specs.Laws.Columns.{first-at, next-at, place-at}
@@ -15,19 +15,7 @@ abbrev Inv-loop : tie.InvT-loop
 Inv-loop pair place slots at₀ at = Index (columnsOf slots) → Walked (columnsOf slots) pair place at
 
 abbrev μ-loop : tie.MeasureT-loop
-μ-loop pair place slots at₀ at = 2048 - at
-
-add-wide : tie.Need-add-wide Inv-loop μ-loop
-add-wide c = search needs
-
-mul-wide : tie.Need-mul-wide Inv-loop μ-loop
-mul-wide c = search needs
-
-element-copy-out-wide : tie.Need-element-copy-out-wide Inv-loop μ-loop
-element-copy-out-wide c = search needs
-
-wide-requires : tie.Need-wide-requires Inv-loop μ-loop
-wide-requires c κs = search needs
+μ-loop pair place slots at₀ at = SLOTS - at
 
 loop-holds : tie.Need-loop-holds Inv-loop μ-loop
 loop-holds c =
@@ -36,15 +24,6 @@ loop-holds c =
     λ x.
     rw (c .wide .ensures, ← first-at (a .slots .now) (a .pair) (start .pre))
     (walk-first x (a .pair) (a .place) (start .pre))
-
-add-if1 : tie.Need-add-if1 Inv-loop μ-loop
-add-if1 c = search needs
-
-mul-if1 : tie.Need-mul-if1 Inv-loop μ-loop
-mul-if1 c = search needs
-
-element-copy-out-if1 : tie.Need-element-copy-out-if1 Inv-loop μ-loop
-element-copy-out-if1 c = search needs
 
 returns : tie.Need-returns Inv-loop μ-loop
 returns c =
@@ -55,18 +34,6 @@ returns c =
     λ x.
     walk-there x (a .pair) (a .place) (start .pre) (head .loop .inv x) (omega arith)
     (place-at (a .slots .now) at (omega arith) ∙ c .if1 .taken)
-
-add-wide-2 : tie.Need-add-wide-2 Inv-loop μ-loop
-add-wide-2 c = search needs
-
-mul-wide-2 : tie.Need-mul-wide-2 Inv-loop μ-loop
-mul-wide-2 c = search needs
-
-element-copy-out-wide-2 : tie.Need-element-copy-out-wide-2 Inv-loop μ-loop
-element-copy-out-wide-2 c = search needs
-
-wide-requires-2 : tie.Need-wide-requires-2 Inv-loop μ-loop
-wide-requires-2 c κs = search needs
 
 returns-2 : tie.Need-returns-2 Inv-loop μ-loop
 returns-2 c =
@@ -101,24 +68,6 @@ returns-3 c =
 
 pub seek-spec : {M : Type 1} → statement M
 seek-spec =
-    tie.close
-    (tie.spec
-    Inv-loop
-    μ-loop
-    add-wide
-    mul-wide
-    element-copy-out-wide
-    wide-requires
-    loop-holds
-    add-if1
-    mul-if1
-    element-copy-out-if1
-    returns
-    add-wide-2
-    mul-wide-2
-    element-copy-out-wide-2
-    wide-requires-2
-    returns-2
-    loop-less
-    loop-again
-    returns-3)
+    tie.close (tie.spec Inv-loop μ-loop (search needs) (search needs) (search needs) (search needs) loop-holds
+    (search needs) (search needs) (search needs) returns (search needs) (search needs) (search needs) (search needs)
+    returns-2 loop-less loop-again returns-3)

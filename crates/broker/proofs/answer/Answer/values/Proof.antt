@@ -3,9 +3,6 @@ use borrow.Author.Needs.{needs}
 use Rattle.broker.proofs.answer.Answer.values.Statement.{statement}
 use Rattle.broker.proofs.answer.Answer.values.Tie as tie
 
-enum-known-self : tie.Need-enum-known-self
-enum-known-self c = search needs
-
 enum-told : tie.Need-enum-told
 enum-told c = search needs
 
@@ -16,4 +13,5 @@ returns-2 : tie.Need-returns-2
 returns-2 c = rw (c .enum-told .given .1)
 
 pub values-spec : {M : Type 1} → statement M
-values-spec = tie.close (tie.spec enum-known-self enum-told returns returns-2)
+values-spec =
+    tie.close (tie.spec (search needs) enum-told returns returns-2)

@@ -3,11 +3,9 @@ use borrow.Author.Needs.{needs}
 use Rattle.broker.proofs.state.Broker.fresh.Statement.{statement}
 use Rattle.broker.proofs.state.Broker.fresh.Tie as tie
 
-fresh-requires : tie.Need-fresh-requires
-fresh-requires c κs = search needs
-
 returns : tie.Need-returns
 returns c = rw (c .fresh .ensures)
 
 pub fresh-spec : {M : Type 1} → statement M
-fresh-spec = tie.close (tie.spec fresh-requires returns)
+fresh-spec =
+    tie.close (tie.spec (search needs) returns)

@@ -3,9 +3,6 @@ use borrow.Author.Needs.{needs}
 use Rattle.checks.proofs.verdict.Verdict.unless.Statement.{statement}
 use Rattle.checks.proofs.verdict.Verdict.unless.Tie as tie
 
-enum-known-self : tie.Need-enum-known-self
-enum-known-self c = search needs
-
 enum-told : tie.Need-enum-told
 enum-told c = search needs
 
@@ -19,4 +16,5 @@ returns-3 : tie.Need-returns-3
 returns-3 c = rw (c .before .enum-told .given .1, c .if1 .left)
 
 pub unless-spec : {M : Type 1} → statement M
-unless-spec = tie.close (tie.spec enum-known-self enum-told returns returns-2 returns-3)
+unless-spec =
+    tie.close (tie.spec (search needs) enum-told returns returns-2 returns-3)
