@@ -20,6 +20,8 @@ mod performance;
 mod proved_program;
 mod quotes;
 mod running_text;
+#[path = "../shared/table.rs"]
+mod table;
 mod tables;
 #[path = "../shared/timing_program.rs"]
 mod timing_program;

@@ -2,7 +2,8 @@
 //! and the names of their rows. The figures are measured, and not compared.
 
 use crate::proved_program::{program_at, USUAL_PLACE};
-use crate::tables::{tables, tables_of, Table};
+use crate::table::{tables, Table};
+use crate::tables::tables_of;
 use crate::timing_program::TIMING;
 use std::process::Command;
 
