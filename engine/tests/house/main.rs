@@ -1,0 +1,23 @@
+//! The rules of the house, held against the tree: what is imported is used, a
+//! public law is cited or promised, lines and paths can be read, the proofs are
+//! small beside the code, and the documents name what is there. Each rule is one
+//! test, and fails with the whole list of what it found, as FILE:LINE: WHAT.
+
+mod aliases;
+mod citations;
+mod code;
+mod imports;
+mod laws;
+mod layers;
+mod lengths;
+mod names;
+mod passages;
+mod paths;
+mod promises;
+mod proofs_page;
+#[path = "../shared/table.rs"]
+mod table;
+mod tree;
+mod unused;
+mod volume;
+mod words;
