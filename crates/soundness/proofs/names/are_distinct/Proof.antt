@@ -10,5 +10,5 @@ returns-3 c = rw (c .before .before .status .given .1, c .same .ensures, and-tru
 
 pub are-distinct-spec : {M : Type 1} → statement M
 are-distinct-spec =
-    tie.close (tie.spec (search needs) (search needs) (search needs) (search needs) (search needs) (search needs)
-    (search needs) returns-3 (search needs))
+    tie.close (tie.spec (search needs) (search needs) (search needs) (search needs) (search needs) (λ c. search needs)
+    (λ c. search needs) returns-3 (λ c. search needs))

@@ -14,4 +14,4 @@ returns-3 c = rw (c .before .before .before .status2 .given .1, c .same3 .ensure
 pub is-free-spec : {M : Type 1} → statement M
 is-free-spec =
     tie.close (tie.spec (search needs) (search needs) (search needs) (search needs) (search needs) (search needs)
-    (search needs) (search needs) returns-2 returns-3 (search needs))
+    (search needs) (λ c. search needs) returns-2 returns-3 (λ c. search needs))

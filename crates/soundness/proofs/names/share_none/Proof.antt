@@ -14,4 +14,4 @@ returns-3 c = rw (c .before .before .before .one2 .given .1, c .is-free3 .ensure
 pub share-none-spec : {M : Type 1} → statement M
 share-none-spec =
     tie.close (tie.spec (search needs) (search needs) (search needs) (search needs) (search needs) (search needs)
-    (search needs) (search needs) returns-2 returns-3 (search needs))
+    (search needs) (λ c. search needs) returns-2 returns-3 (λ c. search needs))

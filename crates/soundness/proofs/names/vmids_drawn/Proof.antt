@@ -17,4 +17,4 @@ returns-4 c = rw (c .before .before .status3 .given .1, c .is-drawn4 .ensures, a
 pub vmids-drawn-spec : {M : Type 1} → statement M
 vmids-drawn-spec =
     tie.close (tie.spec (search needs) (search needs) (search needs) (search needs) (search needs) (search needs)
-    (search needs) (search needs) (search needs) returns-2 returns-3 returns-4)
+    (search needs) (search needs) (λ c. search needs) returns-2 returns-3 returns-4)

@@ -9,4 +9,4 @@ returns-2 c = rw (c .before .before .before .request .given .1, c .is-drawn .ens
 
 pub request-drawn-spec : {M : Type 1} → statement M
 request-drawn-spec =
-    tie.close (tie.spec (search needs) (search needs) (search needs) (search needs) returns-2)
+    tie.close (tie.spec (search needs) (search needs) (search needs) (λ c. search needs) returns-2)
