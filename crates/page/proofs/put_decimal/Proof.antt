@@ -68,5 +68,5 @@ returns-2 c =
 pub put-decimal-spec : {M : Type 1} → statement M
 put-decimal-spec =
     tie.close (tie.spec Inv-loop μ-loop (search needs) add-end loop-holds sub-at (search needs) (search needs)
-    loop-again (search needs) (search needs) (search needs) (search needs) (search needs) returns (search needs)
+    loop-again (search needs) (search needs) (search needs) (search needs) (search needs) returns (λ c. search needs)
     returns-2)

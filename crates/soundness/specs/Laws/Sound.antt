@@ -11,7 +11,7 @@ use lib.ListN.{length, replicate}
 use Rattle.base.specs.Laws.Tests.{both, both-left, both-right, AllTrue, parts, chained, same-truth}
 use Rattle.base.specs.Lists.{neverFalls}
 use Rattle.base.specs.Laws.Lists.{every-wider}
-use Rattle.transit.specs.Message.{number, rank, cells}
+use Rattle.transit.specs.Message.{number, rank, cells, ranks}
 use Rattle.transit.specs.Unread.{limit}
 use Rattle.transit.specs.declared.Message.{Message}
 use Rattle.transit.specs.declared.Rank.{Rank}

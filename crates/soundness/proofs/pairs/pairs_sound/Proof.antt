@@ -53,9 +53,35 @@ returns-2 c =
     let done : c .before .loop .i ≡ cells = omega arith in
     sym (everyPair-rows _ ∙ rw done at (c .before .loop .inv .1))
 
+mul-back : tie.Need-mul-back Inv-loop μ-loop
+mul-back c = search needs
+
+add-back : tie.Need-add-back Inv-loop μ-loop
+add-back c = search needs
+
+mul-back-2 : tie.Need-mul-back-2 Inv-loop μ-loop
+mul-back-2 c = search needs
+
+array-copy-out-back : tie.Need-array-copy-out-back Inv-loop μ-loop
+array-copy-out-back c = search needs
+
+cast-t33 : tie.Need-cast-t33 Inv-loop μ-loop
+cast-t33 c = search needs
+
+cast-t35 : tie.Need-cast-t35 Inv-loop μ-loop
+cast-t35 c = search needs
+
+pair-sound-requires : tie.Need-pair-sound-requires Inv-loop μ-loop
+pair-sound-requires c κs = search needs
+
+add-i : tie.Need-add-i Inv-loop μ-loop
+add-i c = search needs
+
+loop-less : tie.Need-loop-less Inv-loop μ-loop
+loop-less c = search needs
+
 pub pairs-sound-spec : {M : Type 1} → statement M
 pairs-sound-spec =
     tie.close (tie.spec Inv-loop μ-loop (search needs) (search needs) (search needs) (search needs) (search needs)
-    (search needs) (search needs) (search needs) (search needs) (search needs) (search needs) (search needs)
-    (search needs) (search needs) (search needs) (search needs) returns (search needs) (search needs) loop-again
-    returns-2)
+    (search needs) (search needs) (search needs) (search needs) mul-back add-back mul-back-2 array-copy-out-back
+    cast-t33 cast-t35 pair-sound-requires returns add-i loop-less loop-again returns-2)
