@@ -106,30 +106,10 @@ passes s r h =
 pub none-applies : (s : State) (r : Record) → Passes s r → refusal s r ≡ none
 unfolding refusal checks
 none-applies s r p =
-    rw (
-      p .rank-range,
-      p .host-range,
-      p .rank-twice,
-      p .not-started,
-      p .already-started,
-      p .has-ended,
-      p .first-migrating,
-      p .not-migrating,
-      p .is-connected,
-      p .request-open,
-      p .no-request,
-      p .not-connected,
-      p .peer-migrating,
-      p .no-notice,
-      p .same-host,
-      p .backlog-left,
-      p .no-backlog,
-      p .nothing-to-drain,
-      p .nothing-unread,
-      p .unread-left,
-      p .is-full,
-      p .numbers-spent,
-    )
+    rw (p .rank-range, p .host-range, p .rank-twice, p .not-started, p .already-started, p .has-ended, p .first-migrating)
+    (rw (p .not-migrating, p .is-connected, p .request-open, p .no-request, p .not-connected, p .peer-migrating)
+    (rw (p .no-notice, p .same-host, p .backlog-left, p .no-backlog, p .nothing-to-drain, p .nothing-unread, p .unread-left)
+    (rw (p .is-full, p .numbers-spent))))
 
 -- a row of a list is the first that applies: it applies, and none before it does
 pub record FirstRow (cs : List Check) (s : State) (r : Record) (n : Refusal) : Type 0 where

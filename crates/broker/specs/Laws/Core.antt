@@ -119,8 +119,5 @@ endpoint-settled (Ended v) = refl
 -- In a sound state place order is the order of sending, so the values that are unread are those of the letters.
 pub unread-values : (s : State) (a b : Rank) → sound s ≡ true → a .0 < ranks → b .0 < ranks → map (λ (m : Message). m .value) (placeOrder (Between a b) (messages s)) ≡ valuesBetween a b (core s)
 unread-values s a b h ha hb =
-    rw (
-      place-order-is-list-order (Between a b) (messages s) (facts s h .mail .places-rise a b ha hb),
-      select-map (between a b) letter (λ m. refl) (messages s),
-      map-map,
-    )
+    rw (place-order-is-list-order (Between a b) (messages s) (facts s h .mail .places-rise a b ha hb))
+    (rw (select-map (between a b) letter (λ m. refl) (messages s), map-map))

@@ -72,11 +72,8 @@ drain-core s r p = drain-cases (λ t. core t ≡ core s) r p s (rw (relabels-fir
 land-core : (s : State) (r : Rank) → LandFits s r → core (land r s .state) ≡ core s
 unfolding land
 land-core s r f =
-    rw (
-      relabels,
-      eachTo-letters,
-      standings-with-status settled s r (Running (endpoint (status s r))) (at (status s r) (f .migrating)),
-    )
+    rw (relabels, eachTo-letters)
+    (rw (standings-with-status settled s r (Running (endpoint (status s r))) (at (status s r) (f .migrating))))
   where
     at : (t : Status) → isMigrating t ≡ true → settled (Running (endpoint t)) ≡ settled t
     at Unstarted h = absurd (not-both h refl)
@@ -118,11 +115,9 @@ module _ (s : State) (b a : Rank) (h : sound s ≡ true) (f : TakeFits s b a) wh
   take-value =
       let letters : select (between a b) (map letter (messages s)) ≡ map letter (taken .first ∷ taken .rest) =
       select-map (between a b) letter (λ m. refl) (messages s) ∙ ap (map letter) (taken .found) in
-      rw (
-        taken .removes,
-        without-head (between a b) (map letter (messages s)) (letter (taken .first)) (map letter (taken .rest)) letters,
-        letters,
-      )
+      rw (taken .removes)
+      (rw (without-head (between a b) (map letter (messages s)) (letter (taken .first)) (map letter (taken .rest)) letters)
+      (rw (letters)))
 
 pub core-step : (named : Rank) (s : State) (r : Record) → sound s ≡ true → refusal s r ≡ none → core (apply named r s .state) ≡ coreStep r (core s)
 unfolding apply look

@@ -6,14 +6,8 @@ use Rattle.connect.proofs.call_checked.Tie as tie
 returns : tie.Need-returns
 returns c =
     let line = c .before .before .before in
-    rw (
-      c .unless2 .ensures,
-      c .before .is-open .ensures,
-      c .before .before .unless .ensures,
-      line .is-closed .ensures,
-      line .before .running .ensures,
-      line .before .before .on-two .ensures,
-    )
+    rw (c .unless2 .ensures, c .before .is-open .ensures, c .before .before .unless .ensures, line .is-closed .ensures)
+    (rw (line .before .running .ensures, line .before .before .on-two .ensures))
 
 pub call-checked-spec : {M : Type 1} → statement M
 call-checked-spec =

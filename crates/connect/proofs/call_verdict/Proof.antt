@@ -10,14 +10,9 @@ returns : tie.Need-returns
 returns c = λ u.
     let request = c .before .before in
     let args = request .before .before .before .args in
-    rw (
-      by-tests (withUnread u (ranksOf (args .roster .now))) .call (args .a) (args .b),
-      c .call-checked .ensures,
-      c .before .link-between .ensures,
-      request .request-of .ensures,
-      request .before .standing-of2 .ensures,
-      request .before .before .standing-of .ensures,
-    )
+    rw (by-tests (withUnread u (ranksOf (args .roster .now))) .call (args .a) (args .b), c .call-checked .ensures)
+    (rw (c .before .link-between .ensures, request .request-of .ensures, request .before .standing-of2 .ensures)
+    (rw (request .before .before .standing-of .ensures)))
 
 pub call-verdict-spec : {M : Type 1} → statement M
 call-verdict-spec =

@@ -10,13 +10,8 @@ returns : tie.Need-returns
 returns c = λ u.
     let standing = c .before .before in
     let args = standing .before .before .args in
-    rw (
-      by-tests (withUnread u (ranksOf (args .roster .now))) .part (args .a) (args .b),
-      c .part-checked .ensures,
-      c .before .link-between .ensures,
-      standing .standing-of2 .ensures,
-      standing .before .standing-of .ensures,
-    )
+    rw (by-tests (withUnread u (ranksOf (args .roster .now))) .part (args .a) (args .b), c .part-checked .ensures)
+    (rw (c .before .link-between .ensures, standing .standing-of2 .ensures, standing .before .standing-of .ensures))
 
 pub part-verdict-spec : {M : Type 1} → statement M
 part-verdict-spec =

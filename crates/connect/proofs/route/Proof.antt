@@ -16,8 +16,9 @@ found :
     Found (args .a) (args .b) (withUnread u (ranksOf (args .roster .now))) (read .request-of .result) (c .before .posted-to .result)
     (c .before .before .standing-of .result) (c .endpoint .result)
 found c u =
+    let read = c .before .before .before .before in
     record {
-      calls = c .before .before .before .before .request-of .ensures;
+      calls = read .request-of .ensures;
       posts = c .before .posted-to .ensures;
       stands = c .before .before .standing-of .ensures;
       ends = c .endpoint .ensures;

@@ -10,13 +10,8 @@ returns : tie.Need-returns
 returns c = λ u.
     let standing = c .before .before in
     let args = standing .before .before .args in
-    rw (
-      by-tests (withUnread u (ranksOf (args .roster .now))) .route (args .a) (args .b),
-      c .route-checked .ensures,
-      c .before .request-of .ensures,
-      standing .standing-of2 .ensures,
-      standing .before .standing-of .ensures,
-    )
+    rw (by-tests (withUnread u (ranksOf (args .roster .now))) .route (args .a) (args .b), c .route-checked .ensures)
+    (rw (c .before .request-of .ensures, standing .standing-of2 .ensures, standing .before .standing-of .ensures))
 
 pub route-verdict-spec : {M : Type 1} → statement M
 route-verdict-spec =

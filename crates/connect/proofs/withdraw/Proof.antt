@@ -18,13 +18,15 @@ asks c = rw (c .asks-for .ensures, c .before .request-of .ensures)
 returns : tie.Need-returns
 returns c =
     let test = c .before .before in
-    let is : c .before .before .before .asks-for .result ≡ true = test .if1 .taken in
-    record { long = c .set-request .ensures .long; same = rw (asks (test .before), is) (c .set-request .ensures .same) }
+    let asked = test .before in
+    let is : asked .asks-for .result ≡ true = test .if1 .taken in
+    record { long = c .set-request .ensures .long; same = rw (asks asked, is) (c .set-request .ensures .same) }
 
 returns-2 : tie.Need-returns-2
 returns-2 c =
     let is : c .before .asks-for .result ≡ false = c .if1 .left in
-    record { long = c .before .before .before .before .pre; same = rw (asks (c .before), is) }
+    let start = c .before .before .before .before in
+    record { long = start .pre; same = rw (asks (c .before), is) }
 
 pub withdraw-spec : {M : Type 1} → statement M
 withdraw-spec =

@@ -10,21 +10,11 @@ returns c =
     let started = standing .before in
     let host = started .before .before in
     let names = host .before .before in
-    rw (
-      c .unless6 .ensures,
-      c .before .unless5 .ensures,
-      request .unless4 .ensures,
-      request .before .is-open .ensures,
-      standing .running .ensures,
-      started .unless3 .ensures,
-      started .before .is-started .ensures,
-      host .unless2 .ensures,
-      host .before .is-host .ensures,
-      names .unless .ensures,
-      names .before .is-rank .ensures,
-      names .before .before .passed .ensures,
-      names .before .before .before .endpoint .ensures,
-    )
+    let ends = names .before .before .before in
+    rw (c .unless6 .ensures, c .before .unless5 .ensures, request .unless4 .ensures, request .before .is-open .ensures)
+    (rw (standing .running .ensures, started .unless3 .ensures, started .before .is-started .ensures)
+    (rw (host .unless2 .ensures, host .before .is-host .ensures, names .unless .ensures, names .before .is-rank .ensures)
+    (rw (names .before .before .passed .ensures, ends .endpoint .ensures))))
 
 pub move-checked-spec : {M : Type 1} → statement M
 move-checked-spec =

@@ -10,13 +10,8 @@ returns : tie.Need-returns
 returns c = λ u.
     let request = c .before .before in
     let args = request .before .before .args in
-    rw (
-      by-tests (withUnread u (ranksOf (args .roster .now))) (args .r) (args .host),
-      c .move-checked .ensures,
-      c .before .drawn-on .ensures,
-      request .request-of .ensures,
-      request .before .standing-of .ensures,
-    )
+    rw (by-tests (withUnread u (ranksOf (args .roster .now))) (args .r) (args .host), c .move-checked .ensures)
+    (rw (c .before .drawn-on .ensures, request .request-of .ensures, request .before .standing-of .ensures))
 
 pub move-verdict-spec : {M : Type 1} → statement M
 move-verdict-spec =

@@ -8,12 +8,8 @@ use Rattle.exchange.proofs.look_verdict.Tie as tie
 returns : tie.Need-returns
 returns c =
     let args = c .before .before .before .args in
-    rw (
-      by-tests (deskOf (args .slots .now) (args .contents .now) (args .roster .now)) .look (args .r),
-      c .look-checked .ensures,
-      c .before .first-to .ensures,
-      c .before .before .standing-of .ensures,
-    )
+    rw (by-tests (deskOf (args .slots .now) (args .contents .now) (args .roster .now)) .look (args .r))
+    (rw (c .look-checked .ensures, c .before .first-to .ensures, c .before .before .standing-of .ensures))
 
 pub look-verdict-spec : {M : Type 1} → statement M
 look-verdict-spec =

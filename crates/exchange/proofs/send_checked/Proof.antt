@@ -6,13 +6,8 @@ use Rattle.exchange.proofs.send_checked.Tie as tie
 returns : tie.Need-returns
 returns c =
     let line = c .before .before in
-    rw (
-      c .unless2 .ensures,
-      c .before .unless .ensures,
-      line .is-closed .ensures,
-      line .before .running .ensures,
-      line .before .before .on-two .ensures,
-    )
+    rw (c .unless2 .ensures, c .before .unless .ensures, line .is-closed .ensures, line .before .running .ensures)
+    (rw (line .before .before .on-two .ensures))
 
 pub send-checked-spec : {M : Type 1} → statement M
 send-checked-spec =

@@ -9,14 +9,9 @@ returns : tie.Need-returns
 returns c = λ contents value m.
     let line = c .before .before in
     let args = line .before .before .before .args in
-    rw (
-      by-tests (deskOf (args .slots .now) contents (args .roster .now)) .send (args .a) (args .b) value,
-      c .send-checked .ensures,
-      c .before .unread .ensures contents m,
-      line .link-between .ensures,
-      line .before .standing-of2 .ensures,
-      line .before .before .standing-of .ensures,
-    )
+    rw (by-tests (deskOf (args .slots .now) contents (args .roster .now)) .send (args .a) (args .b) value)
+    (rw (c .send-checked .ensures, c .before .unread .ensures contents m, line .link-between .ensures)
+    (rw (line .before .standing-of2 .ensures, line .before .before .standing-of .ensures)))
 
 pub send-verdict-spec : {M : Type 1} → statement M
 send-verdict-spec =

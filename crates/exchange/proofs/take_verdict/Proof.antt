@@ -9,13 +9,9 @@ returns : tie.Need-returns
 returns c = λ contents m.
     let standing = c .before .before in
     let args = standing .before .before .args in
-    rw (
-      by-tests (deskOf (args .slots .now) contents (args .roster .now)) .take (args .b) (args .a),
-      c .take-checked .ensures,
-      c .before .unread-between .ensures contents m,
-      standing .standing-of2 .ensures,
-      standing .before .standing-of .ensures,
-    )
+    rw (by-tests (deskOf (args .slots .now) contents (args .roster .now)) .take (args .b) (args .a))
+    (rw (c .take-checked .ensures, c .before .unread-between .ensures contents m, standing .standing-of2 .ensures)
+    (rw (standing .before .standing-of .ensures)))
 
 pub take-verdict-spec : {M : Type 1} → statement M
 take-verdict-spec =

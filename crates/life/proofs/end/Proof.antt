@@ -10,11 +10,7 @@ returns c =
     let end = c .before .before in
     record {
       long = c .set-standing .ensures .long;
-      does = λ u. rw (
-        c .set-standing .ensures .same,
-        end .endpoint .ensures,
-        end .before .standing-of .ensures,
-      );
+      does = λ u. rw (c .set-standing .ensures .same, end .endpoint .ensures, end .before .standing-of .ensures);
     }
 
 pub end-spec : {M : Type 1} → statement M

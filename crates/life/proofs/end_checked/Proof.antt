@@ -8,15 +8,8 @@ returns c =
     let unread = c .before in
     let request = unread .before .before in
     let standing = request .before .before in
-    rw (
-      c .unless3 .ensures,
-      unread .is-nothing .ensures,
-      unread .before .unless2 .ensures,
-      request .is-open .ensures,
-      request .before .unless .ensures,
-      standing .running .ensures,
-      standing .before .on-one .ensures,
-    )
+    rw (c .unless3 .ensures, unread .is-nothing .ensures, unread .before .unless2 .ensures, request .is-open .ensures)
+    (rw (request .before .unless .ensures, standing .running .ensures, standing .before .on-one .ensures))
 
 pub end-checked-spec : {M : Type 1} → statement M
 end-checked-spec =

@@ -10,14 +10,9 @@ returns c =
     let found = c .before in
     let alone = found .before in
     let args = alone .before .before .before .args in
-    rw (
-      by-tests (deskOf (args .slots .now) (args .contents .now) (args .roster .now)) .end (args .r),
-      c .end-checked .ensures,
-      found .first-to .ensures,
-      alone .alone .ensures,
-      alone .before .request-of .ensures,
-      alone .before .before .standing-of .ensures,
-    )
+    rw (by-tests (deskOf (args .slots .now) (args .contents .now) (args .roster .now)) .end (args .r))
+    (rw (c .end-checked .ensures, found .first-to .ensures, alone .alone .ensures, alone .before .request-of .ensures)
+    (rw (alone .before .before .standing-of .ensures)))
 
 pub end-verdict-spec : {M : Type 1} → statement M
 end-verdict-spec =

@@ -11,12 +11,8 @@ returns c =
     let drawn = standing .before .before in
     record {
       long = c .announce .ensures .long;
-      does = λ u. rw (
-        c .announce .ensures .same,
-        standing .set-standing .ensures .same,
-        drawn .set-drawn .ensures .same,
-        drawn .before .before .drawn-on .ensures,
-      );
+      does = λ u. rw (c .announce .ensures .same, standing .set-standing .ensures .same, drawn .set-drawn .ensures .same)
+          (rw (drawn .before .before .drawn-on .ensures));
     }
 
 pub start-spec : {M : Type 1} → statement M

@@ -9,17 +9,9 @@ returns c =
     let standing = drawn .before .before in
     let host = standing .before .before in
     let name = host .before .before in
-    rw (
-      c .unless4 .ensures,
-      drawn .numbers-spent .ensures,
-      drawn .before .unless3 .ensures,
-      standing .is-started .ensures,
-      standing .before .unless2 .ensures,
-      host .is-host .ensures,
-      host .before .unless .ensures,
-      name .is-rank .ensures,
-      name .before .passed .ensures,
-    )
+    rw (c .unless4 .ensures, drawn .numbers-spent .ensures, drawn .before .unless3 .ensures, standing .is-started .ensures)
+    (rw (standing .before .unless2 .ensures, host .is-host .ensures, host .before .unless .ensures, name .is-rank .ensures)
+    (rw (name .before .passed .ensures)))
 
 pub start-checked-spec : {M : Type 1} → statement M
 start-checked-spec =

@@ -9,12 +9,8 @@ use Rattle.life.proofs.start_verdict.Tie as tie
 returns : tie.Need-returns
 returns c = λ u.
     let args = c .before .before .before .args in
-    rw (
-      by-tests (withUnread u (ranksOf (args .roster .now))) .start (args .r) (args .host),
-      c .start-checked .ensures,
-      c .before .drawn-on .ensures,
-      c .before .before .standing-of .ensures,
-    )
+    rw (by-tests (withUnread u (ranksOf (args .roster .now))) .start (args .r) (args .host), c .start-checked .ensures)
+    (rw (c .before .drawn-on .ensures, c .before .before .standing-of .ensures))
 
 pub start-verdict-spec : {M : Type 1} → statement M
 start-verdict-spec =

@@ -8,16 +8,9 @@ returns c =
     let clear = c .before .before in
     let named = clear .before .before in
     let nothing = named .before in
-    rw (
-      c .unless2 .ensures,
-      c .before .unless .ensures,
-      clear .is-clear .ensures,
-      clear .before .migrating .ensures,
-      named .on-two .ensures,
-      nothing .both .ensures,
-      nothing .before .is-unheeded .ensures,
-      nothing .before .before .is-nothing .ensures,
-    )
+    rw (c .unless2 .ensures, c .before .unless .ensures, clear .is-clear .ensures, clear .before .migrating .ensures)
+    (rw (named .on-two .ensures, nothing .both .ensures, nothing .before .is-unheeded .ensures)
+    (rw (nothing .before .before .is-nothing .ensures)))
 
 pub drain-checked-spec : {M : Type 1} → statement M
 drain-checked-spec =

@@ -9,14 +9,9 @@ returns : tie.Need-returns
 returns c =
     let line = c .before .before in
     let args = line .before .before .before .args in
-    rw (
-      by-tests (deskOf (args .slots .now) (args .contents .now) (args .roster .now)) .drain (args .r) (args .p),
-      c .drain-checked .ensures,
-      c .before .first-at .ensures,
-      line .link-between .ensures,
-      line .before .standing-of2 .ensures,
-      line .before .before .standing-of .ensures,
-    )
+    rw (by-tests (deskOf (args .slots .now) (args .contents .now) (args .roster .now)) .drain (args .r) (args .p))
+    (rw (c .drain-checked .ensures, c .before .first-at .ensures, line .link-between .ensures)
+    (rw (line .before .standing-of2 .ensures, line .before .before .standing-of .ensures)))
 
 pub drain-verdict-spec : {M : Type 1} → statement M
 drain-verdict-spec =

@@ -6,13 +6,8 @@ use Rattle.migrate.proofs.heed_checked.Tie as tie
 returns : tie.Need-returns
 returns c =
     let ended = c .before .before in
-    rw (
-      c .unless2 .ensures,
-      c .before .is-closing .ensures,
-      ended .unless .ensures,
-      ended .before .is-ended .ensures,
-      ended .before .before .on-two .ensures,
-    )
+    rw (c .unless2 .ensures, c .before .is-closing .ensures, ended .unless .ensures, ended .before .is-ended .ensures)
+    (rw (ended .before .before .on-two .ensures))
 
 pub heed-checked-spec : {M : Type 1} → statement M
 heed-checked-spec =

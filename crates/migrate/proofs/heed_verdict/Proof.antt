@@ -10,13 +10,8 @@ returns : tie.Need-returns
 returns c = λ u.
     let standing = c .before .before in
     let args = standing .before .before .args in
-    rw (
-      by-tests (withUnread u (ranksOf (args .roster .now))) .heed (args .b) (args .r),
-      c .heed-checked .ensures,
-      c .before .link-between .ensures,
-      standing .standing-of2 .ensures,
-      standing .before .standing-of .ensures,
-    )
+    rw (by-tests (withUnread u (ranksOf (args .roster .now))) .heed (args .b) (args .r), c .heed-checked .ensures)
+    (rw (c .before .link-between .ensures, standing .standing-of2 .ensures, standing .before .standing-of .ensures))
 
 pub heed-verdict-spec : {M : Type 1} → statement M
 heed-verdict-spec =

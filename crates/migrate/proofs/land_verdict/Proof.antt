@@ -9,12 +9,8 @@ use Rattle.migrate.proofs.land_verdict.Tie as tie
 returns : tie.Need-returns
 returns c = λ u.
     let args = c .before .before .before .args in
-    rw (
-      by-tests (withUnread u (ranksOf (args .roster .now))) .land (args .r),
-      c .land-checked .ensures,
-      c .before .awaits .ensures,
-      c .before .before .standing-of .ensures,
-    )
+    rw (by-tests (withUnread u (ranksOf (args .roster .now))) .land (args .r), c .land-checked .ensures)
+    (rw (c .before .awaits .ensures, c .before .before .standing-of .ensures))
 
 pub land-verdict-spec : {M : Type 1} → statement M
 land-verdict-spec =

@@ -17,12 +17,8 @@ returns-2 c =
     let arm = own .before .before in
     record {
       long = c .connect .ensures .long;
-      same = rw (
-        ← arm .before .before .link-between .ensures,
-        arm .enum-told2 .given .1,
-        c .connect .ensures .same,
-        own .set-link .ensures .same,
-      );
+      same = rw (← arm .before .before .link-between .ensures, arm .enum-told2 .given .1, c .connect .ensures .same)
+          (rw (own .set-link .ensures .same));
     }
 
 returns-3 : tie.Need-returns-3
@@ -31,12 +27,8 @@ returns-3 c =
     let arm = own .before .before in
     record {
       long = c .awaiting .ensures .long;
-      same = rw (
-        ← arm .before .before .link-between .ensures,
-        arm .enum-told3 .given .1,
-        c .awaiting .ensures .same,
-        own .set-link2 .ensures .same,
-      );
+      same = rw (← arm .before .before .link-between .ensures, arm .enum-told3 .given .1, c .awaiting .ensures .same)
+          (rw (own .set-link2 .ensures .same));
     }
 
 pub leave-spec : {M : Type 1} → statement M

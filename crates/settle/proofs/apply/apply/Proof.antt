@@ -101,7 +101,9 @@ returns-3 c =
 
 returns-4 : tie.Need-returns-4
 unfolding apply
-returns-4 c = rw (c .before .before .before .before .before .read4 .given .1) (c .send .ensures)
+returns-4 c =
+    let known = c .before .before .before .before .before in
+    rw (known .read4 .given .1) (c .send .ensures)
 
 returns-5 : tie.Need-returns-5
 unfolding apply
@@ -126,7 +128,9 @@ returns-7 c =
 
 returns-8 : tie.Need-returns-8
 unfolding apply
-returns-8 c = rw (c .before .before .before .before .before .read8 .given .1) (c .drain .ensures)
+returns-8 c =
+    let known = c .before .before .before .before .before in
+    rw (known .read8 .given .1) (c .drain .ensures)
 
 returns-9 : tie.Need-returns-9
 unfolding apply

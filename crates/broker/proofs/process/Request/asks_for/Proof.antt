@@ -4,7 +4,9 @@ use Rattle.broker.proofs.process.Request.asks_for.Statement.{statement}
 use Rattle.broker.proofs.process.Request.asks_for.Tie as tie
 
 returns-2 : tie.Need-returns-2
-returns-2 c = rw (c .before .before .before .self .given .1)
+returns-2 c =
+    let known = c .before .before .before in
+    rw (known .self .given .1)
 
 pub asks-for-spec : {M : Type 1} → statement M
 asks-for-spec =

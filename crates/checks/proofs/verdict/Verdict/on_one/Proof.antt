@@ -7,13 +7,8 @@ returns : tie.Need-returns
 returns c =
     let standing = c .before in
     let name = standing .before in
-    rw (
-      c .unless2 .ensures,
-      standing .is-started .ensures,
-      name .unless .ensures,
-      name .before .is-rank .ensures,
-      name .before .before .passed .ensures,
-    )
+    rw (c .unless2 .ensures, standing .is-started .ensures, name .unless .ensures, name .before .is-rank .ensures)
+    (rw (name .before .before .passed .ensures))
 
 pub on-one-spec : {M : Type 1} → statement M
 on-one-spec =

@@ -9,19 +9,10 @@ returns c =
     let passed = same .before .before in
     let standing = passed .before in
     let names = standing .before .before .before in
-    rw (
-      c .unless3 .ensures,
-      c .before .unless2 .ensures,
-      same .same-rank .ensures,
-      same .before .unless .ensures,
-      passed .passed .ensures,
-      standing .both2 .ensures,
-      standing .before .is-started2 .ensures,
-      standing .before .before .is-started .ensures,
-      names .both .ensures,
-      names .before .is-rank2 .ensures,
-      names .before .before .is-rank .ensures,
-    )
+    rw (c .unless3 .ensures, c .before .unless2 .ensures, same .same-rank .ensures, same .before .unless .ensures)
+    (rw (passed .passed .ensures, standing .both2 .ensures, standing .before .is-started2 .ensures)
+    (rw (standing .before .before .is-started .ensures, names .both .ensures, names .before .is-rank2 .ensures)
+    (rw (names .before .before .is-rank .ensures))))
 
 pub on-two-spec : {M : Type 1} → statement M
 on-two-spec =

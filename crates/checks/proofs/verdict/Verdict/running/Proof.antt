@@ -5,12 +5,8 @@ use Rattle.checks.proofs.verdict.Verdict.running.Tie as tie
 
 returns : tie.Need-returns
 returns c =
-    rw (
-      c .unless2 .ensures,
-      c .before .is-migrating .ensures,
-      c .before .before .unless .ensures,
-      c .before .before .before .is-ended .ensures,
-    )
+    let ended = c .before .before .before in
+    rw (c .unless2 .ensures, c .before .is-migrating .ensures, c .before .before .unless .ensures, ended .is-ended .ensures)
 
 pub running-spec : {M : Type 1} → statement M
 running-spec =
