@@ -118,7 +118,7 @@ FirstHalf =
 
 -- The second list.
 
--- "A move is open from its accepted 06 until its accepted 09": while it is, its rank migrates, and no other rank does (`Open`)
+-- "A move is open from its accepted 06 until its accepted 09": while it is, its rank migrates, and no other rank does (`Laws/Open`)
 abbrev pub noMoveOpen : State → Bool
 noMoveOpen s = everyRank (λ r. not (isMigrating (status s r)))
 

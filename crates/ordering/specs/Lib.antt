@@ -1,14 +1,4 @@
--- Lists of steps, and the ordering claim about them. Paper 01, "Lists of steps".
+-- Lists of steps: the ordering claim about them, its proof, and worked examples of it. Paper 01, "Lists of steps".
 pub mod Claim
-pub mod Runs
-pub mod First
-pub mod Following
-pub mod Stands
-pub mod Sends
-pub mod Second
-pub mod Ordering
-pub mod Open
-pub mod Account
+pub mod Laws
 pub mod Worked
-pub mod Examples
-pub mod Listing

@@ -7,8 +7,8 @@ use Rattle.page.specs.Text.{decimal}
 use Rattle.lines.specs.Lines.{recordLine, pairLine, pairLines}
 use Rattle.broker.specs.Laws.Opened.{opened}
 use Rattle.broker.specs.State.{fresh}
-use Rattle.ordering.specs.Listing.{log}
-use Rattle.ordering.specs.Runs.{fresh-sound}
+use Rattle.ordering.specs.Worked.Listing.{log}
+use Rattle.ordering.specs.Laws.Runs.{fresh-sound}
 use Rattle.printout.specs.Laws.Pieces.{printed-is-left, printed-in-pieces}
 use Rattle.printout.specs.Pieces.{Turn, allBytes, inPieces}
 use Rattle.printout.specs.Printed.{textOf, printed}

@@ -10,7 +10,7 @@ use lib.Seq.{take-take}
 use Rattle.broker.specs.Sound.{sound}
 use Rattle.broker.specs.State.{State, fresh}
 use Rattle.checks.specs.Look.{nameFor}
-use Rattle.ordering.specs.Runs.{fresh-sound}
+use Rattle.ordering.specs.Laws.Runs.{fresh-sound}
 use Rattle.printout.specs.Laws.Pieces.{printed-is-left}
 use Rattle.printout.specs.Laws.Text.{prints}
 use Rattle.printout.specs.Printed.{printed, Prints}

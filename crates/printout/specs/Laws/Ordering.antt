@@ -11,8 +11,8 @@ use Rattle.transit.specs.declared.Rank.{Rank}
 use Rattle.broker.specs.Record.{decode}
 use Rattle.broker.specs.State.{State, fresh}
 use Rattle.ordering.specs.Claim.{Reading, SecondList, after, accepted, taken, sent, unread, noMoveOpen}
-use Rattle.ordering.specs.Ordering.{ordering}
-use Rattle.ordering.specs.Runs.{fresh-sound}
+use Rattle.ordering.specs.Laws.Ordering.{ordering}
+use Rattle.ordering.specs.Laws.Runs.{fresh-sound}
 use Rattle.checks.specs.Look.{nameFor}
 use Rattle.printout.specs.Laws.Pieces.{run-in-pieces}
 use Rattle.printout.specs.Laws.Steps.{same-state}

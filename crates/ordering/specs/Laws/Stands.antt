@@ -25,8 +25,8 @@ use Rattle.broker.specs.declared.record.Decoded.the-variants.{Whole}
 use Rattle.broker.specs.declared.record.Record.{Record}
 use Rattle.broker.specs.declared.record.Record.the-variants.{Start, Take, Move, Land, End}
 use Rattle.ordering.specs.Claim.{Reading, taken, fiveKinds}
-use Rattle.ordering.specs.Following.{Following, Leads, step-follows, follows-as}
-use Rattle.ordering.specs.Runs.{entry}
+use Rattle.ordering.specs.Laws.Following.{Following, Leads, step-follows, follows-as}
+use Rattle.ordering.specs.Laws.Runs.{entry}
 
 -- a log of one record, read at its start, that names one rank, or two
 abbrev pub ofOne : ℕ → Rank → Reading

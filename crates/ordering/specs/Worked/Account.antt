@@ -9,7 +9,7 @@ use Rattle.broker.specs.Sound.{sound}
 use Rattle.broker.specs.State.{State, fresh}
 use Rattle.broker.specs.Step.{Outcome, stepSound}
 use Rattle.ordering.specs.Claim.{Reading, Entry, stepAt, after, isAccepted, everyAccepted, entryOf, accepted}
-use Rattle.ordering.specs.Runs.{fresh-sound}
+use Rattle.ordering.specs.Laws.Runs.{fresh-sound}
 
 -- the accepted steps, whether all are, and the state at the end
 pub record Account : Type 0 where

@@ -12,9 +12,9 @@ use Rattle.broker.specs.Ranks.{everyRank}
 use Rattle.broker.specs.State.{idle, fresh, status}
 use Rattle.broker.specs.declared.process.Status.the-variants.{Running, Migrating}
 use Rattle.broker.specs.declared.record.Record.the-variants.{Start, Call, Route, Send, Take, Move, Drain, Land, Part}
-use Rattle.ordering.specs.Account.{Account, computed, from-fresh}
+use Rattle.ordering.specs.Worked.Account.{Account, computed, from-fresh}
 use Rattle.ordering.specs.Claim.{Reading, Entry, after, everyAccepted, noMoveOpen, SecondList}
-use Rattle.ordering.specs.Worked.{Result, brief, result, Balance, balance, second, whole, did, process}
+use Rattle.ordering.specs.Worked.Result.{Result, brief, result, Balance, balance, second, whole, did, process}
 
 -- Two moves that overlap. Ranks 0 and 1 are joined, and each has a message on the lane to the other. Rank 0 moves, and a message follows
 -- it on the lane to its mover; rank 1 moves before rank 0 has landed. All is drained, both land, and each takes one message.

@@ -22,7 +22,7 @@ use Rattle.broker.specs.Step.{apply}
 use Rattle.broker.specs.declared.record.Record.{Record}
 use Rattle.broker.specs.declared.record.Record.the-variants.{Start, Call, Route, Send, Take, Move, Heed, Drain, Land, Part, End, Look}
 use Rattle.ordering.specs.Claim.{Entry, sent, taken, unread, FirstHalf}
-use Rattle.ordering.specs.Runs.{fresh-sound, entry, sent-cons, taken-cons, along}
+use Rattle.ordering.specs.Laws.Runs.{fresh-sound, entry, sent-cons, taken-cons, along}
 
 -- what an accepted record takes, and after it the values that are left, is the values before and after them what it sends
 Balanced : (a b named : Rank) (s : State) (r : Record) → Type 0

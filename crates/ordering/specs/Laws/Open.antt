@@ -14,7 +14,7 @@ use Rattle.broker.specs.State.{State, idle, fresh, status}
 use Rattle.broker.specs.declared.process.Process.{Process}
 use Rattle.broker.specs.declared.record.Record.{Record}
 use Rattle.ordering.specs.Claim.{Reading, after, accepted, records, noMoveOpen}
-use Rattle.ordering.specs.Runs.{fresh-sound, along}
+use Rattle.ordering.specs.Laws.Runs.{fresh-sound, along}
 
 -- whether a move of r is open after accepted records, by whether one was open before
 abbrev pub openAfterAll : Rank → Bool → List Record → Bool

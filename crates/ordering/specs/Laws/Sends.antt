@@ -28,8 +28,8 @@ use Rattle.broker.specs.declared.record.Decoded.the-variants.{Whole}
 use Rattle.broker.specs.declared.record.Record.{Record}
 use Rattle.broker.specs.declared.record.Record.the-variants.{Call, Route, Send, Part}
 use Rattle.ordering.specs.Claim.{Reading}
-use Rattle.ordering.specs.Following.{Following, step-follows}
-use Rattle.ordering.specs.Stands.{Standing, ofTwo, quiet-after}
+use Rattle.ordering.specs.Laws.Following.{Following, step-follows}
+use Rattle.ordering.specs.Laws.Stands.{Standing, ofTwo, quiet-after}
 
 -- A send that s accepts, from a state with the same core.
 module _ (s : State) (a b : Rank) (v : ℕ) (hs : sound s ≡ true) (p : refusal s (Send a b v) ≡ none) where

@@ -24,10 +24,10 @@ use Rattle.broker.specs.declared.record.Decoded.the-variants.{Whole}
 use Rattle.broker.specs.declared.record.Record.{Record}
 use Rattle.broker.specs.declared.record.Record.the-variants.{Start, Call, Route, Send, Take, Move, Heed, Drain, Land, Part, End, Look}
 use Rattle.ordering.specs.Claim.{Reading, Entry, after, accepted, taken, fiveKinds, SecondHalf}
-use Rattle.ordering.specs.Following.{Following, nothing-follows, follows-as}
-use Rattle.ordering.specs.Runs.{fresh-sound, entry, taken-cons, five-cons, along, sound-after}
-use Rattle.ordering.specs.Sends.{send-stands}
-use Rattle.ordering.specs.Stands.{Standing, nothing-stands, start-stands, take-stands, move-stands, end-stands}
+use Rattle.ordering.specs.Laws.Following.{Following, nothing-follows, follows-as}
+use Rattle.ordering.specs.Laws.Runs.{fresh-sound, entry, taken-cons, five-cons, along, sound-after}
+use Rattle.ordering.specs.Laws.Sends.{send-stands}
+use Rattle.ordering.specs.Laws.Stands.{Standing, nothing-stands, start-stands, take-stands, move-stands, end-stands}
 
 -- What stands for any accepted step.
 stands :

@@ -11,9 +11,9 @@ use Rattle.transit.specs.Message.{rank}
 use Rattle.broker.specs.State.{idle}
 use Rattle.broker.specs.declared.process.Status.the-variants.{Running}
 use Rattle.broker.specs.declared.record.Record.the-variants.{Start, Call, Route, Send, Take, Move, Heed, Drain, Land}
-use Rattle.ordering.specs.Account.{computed, from-fresh}
+use Rattle.ordering.specs.Worked.Account.{computed, from-fresh}
 use Rattle.ordering.specs.Claim.{Reading}
-use Rattle.ordering.specs.Worked.{Result, result, brief, Balance, balance, did, process}
+use Rattle.ordering.specs.Worked.Result.{Result, result, brief, Balance, balance, did, process}
 
 -- "start 0 0, start 1 1, call 0 1, route 0 1, send 0 1 500, move 1 2, send 0 1 501, heed 0 1, call 0 1, route 0 1 twice, send 0 1 502,
 -- land 1, drain 1 0 three times, land 1, take 1 0"

@@ -1,0 +1,9 @@
+-- The proof of the claim: induction along a list, the first half, the second list and what stands in it, and last the theorem.
+pub mod Runs
+pub mod First
+pub mod Following
+pub mod Stands
+pub mod Sends
+pub mod Second
+pub mod Ordering
+pub mod Open
