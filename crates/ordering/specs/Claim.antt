@@ -5,6 +5,7 @@ use mathlib.Core.Bool.{Bool, true, false, not, cond, _&&_, _||_}
 use mathlib.Core.List.{List, [], _∷_, _++_, map}
 use mathlib.Core.Option.{Option, none, some}
 use Prim.Native.Nat.{ℕ, _<_}
+use lib.Dec.{ltb}
 use Rattle.base.specs.Lists.{select, every}
 use Rattle.transit.specs.Message.{sameRank, placeOrder}
 use Rattle.transit.specs.declared.Message.{Message}
@@ -148,9 +149,21 @@ unbroken none (x ∷ xs) =
 unbroken (some r) (x ∷ xs) =
     cond (is (Kind.land ∷ []) x) (sameRank (firstRank x) r && unbroken none xs) (standsInside r x && unbroken (some r) xs)
 
+-- "One byte of kind, then a body .. Ranks and hosts are one byte each; the value is four bytes": a log is a list of bytes
+abbrev pub isByte : ℕ → Bool
+isByte n = ltb n 256
+
+abbrev pub isBytes : Reading → Bool
+isBytes x = every isByte (x .log)
+
+abbrev pub areBytes : List Reading → Bool
+areBytes xs = every isBytes xs
+
 -- a second list for a list: it can be carried out as it stands, its moves are unbroken, and nobody can tell the two apart
 pub record SecondList (xs : List Reading) : Type 0 where
   pub list : List Reading
+  -- it reads lists of bytes, where the first list does
+  pub bytes : areBytes xs ≡ true → areBytes list ≡ true
   pub all-accepted : everyAccepted fresh list ≡ true
   pub moves-unbroken : unbroken none (records (accepted fresh list)) ≡ true
   pub same-steps : fiveKinds (accepted fresh list) ≡ fiveKinds (accepted fresh xs)

@@ -1,10 +1,11 @@
 -- Lists of accepted steps from a state, built from the back: what they share with another list, and that they end quiet.
 -- Assumes nothing.
 use mathlib.Core.Path.{_≡_, refl, sym, ap, subst, _∙_}
-use mathlib.Core.Bool.{true}
+use mathlib.Core.Bool.{Bool, true}
 use mathlib.Core.List.{List, [], _∷_, _++_}
 use mathlib.Core.Option.{Option, none}
 use Prim.Native.Nat.{ℕ}
+use Rattle.base.specs.Laws.Tests.{both}
 use Rattle.transit.specs.declared.Rank.{Rank}
 use Rattle.broker.specs.Checks.{refusal}
 use Rattle.broker.specs.Laws.Core.{Core, core}
@@ -16,13 +17,21 @@ use Rattle.broker.specs.State.{State}
 use Rattle.broker.specs.Step.{apply}
 use Rattle.broker.specs.declared.record.Decoded.the-variants.{Whole}
 use Rattle.broker.specs.declared.record.Record.{Record}
-use Rattle.ordering.specs.Claim.{Reading, Entry, after, accepted, everyAccepted, records, taken, fiveKinds, unbroken}
+use Rattle.ordering.specs.Claim.{Reading, isBytes, areBytes, Entry, after, accepted, everyAccepted, records, taken, fiveKinds, unbroken}
 use Rattle.ordering.specs.Laws.Runs.{entry, taken-cons, five-cons, carried-enters, carried-leaves}
 
 -- a list of accepted steps from q, where a move of the given rank is open: its moves are unbroken, its steps of the five kinds and its
--- takes are these, and it ends quiet, with this core
-pub record Following (moving : Option Rank) (q : State) (five : List Record) (takes : Rank → Rank → List ℕ) (c : Core) : Type 0 where
+-- takes are these, it ends quiet, with this core, and its logs are bytes where the first list's are
+pub record Following
+    (inBytes : Bool)
+    (moving : Option Rank)
+    (q : State)
+    (five : List Record)
+    (takes : Rank → Rank → List ℕ)
+    (c : Core)
+    : Type 0 where
   pub list : List Reading
+  pub bytes : inBytes ≡ true → areBytes list ≡ true
   pub all-accepted : everyAccepted q list ≡ true
   pub moves-unbroken : unbroken moving (records (accepted q list)) ≡ true
   pub same-five : fiveKinds (accepted q list) ≡ five
@@ -31,10 +40,11 @@ pub record Following (moving : Option Rank) (q : State) (five : List Record) (ta
   pub ends-alike : core (after q list) ≡ c
 
 -- No steps.
-pub nothing-follows : (q : State) → Quiet q → Following none q [] (λ a b. []) (core q)
-nothing-follows q quiet =
+pub nothing-follows : (inBytes : Bool) (q : State) → Quiet q → Following inBytes none q [] (λ a b. []) (core q)
+nothing-follows inBytes q quiet =
     record {
       list = [];
+      bytes = λ t. refl;
       all-accepted = refl;
       moves-unbroken = refl;
       same-five = refl;
@@ -45,13 +55,14 @@ nothing-follows q quiet =
 
 -- The same list where its takes are named in another way.
 pub follows-as :
-    {moving : Option Rank} {q : State} {five : List Record} {takes takes′ : Rank → Rank → List ℕ} {c : Core} →
+    {inBytes : Bool} {moving : Option Rank} {q : State} {five : List Record} {takes takes′ : Rank → Rank → List ℕ} {c : Core} →
     ((a b : Rank) → takes a b ≡ takes′ a b) →
-    Following moving q five takes c →
-    Following moving q five takes′ c
+    Following inBytes moving q five takes c →
+    Following inBytes moving q five takes′ c
 follows-as e f =
     record {
       list = f .list;
+      bytes = f .bytes;
       all-accepted = f .all-accepted;
       moves-unbroken = f .moves-unbroken;
       same-five = f .same-five;
@@ -66,6 +77,7 @@ Leads moving r then = (l : List Record) → unbroken moving (r ∷ l) ≡ unbrok
 
 -- One accepted step in front.
 module _
+    {inBytes : Bool}
     {moving then : Option Rank}
     {five : List Record}
     {takes : Rank → Rank → List ℕ}
@@ -76,19 +88,27 @@ module _
     (next : ℕ)
   where
     pub step-follows :
+        (inBytes ≡ true → isBytes x ≡ true) →
         decode (x .log) (x .at) ≡ Whole r next →
         sound q ≡ true →
         refusal q r ≡ none →
         Leads moving r then →
-        Following then (apply (x .named) r q .state) five takes c
-        → Following moving q (fiveKinds (entry (x .named) r q ∷ []) ++ five) (λ a b. taken a b (entry (x .named) r q ∷ []) ++ takes a b) c
-    step-follows reads h p leads f =
+        Following inBytes then (apply (x .named) r q .state) five takes c →
+        Following
+        inBytes
+        moving
+        q
+        (fiveKinds (entry (x .named) r q ∷ []) ++ five)
+        (λ a b. taken a b (entry (x .named) r q ∷ []) ++ takes a b)
+        c
+    step-follows bytes reads h p leads f =
         let e = entry (x .named) r q in
         let es = accepted (apply (x .named) r q .state) (f .list) in
         let enters = carried-enters q x (f .list) r next h reads p in
         let leaves = carried-leaves q x (f .list) r next h reads p in
         record {
           list = x ∷ f .list;
+          bytes = λ t. both (bytes t) (f .bytes t);
           all-accepted = rw (step-accepted (x .named) q (x .log) (x .at) r next h reads p) (f .all-accepted);
           moves-unbroken = ap (λ (l : List Entry). unbroken moving (records l)) enters ∙ leads (records es) ∙ f .moves-unbroken;
           same-five = ap fiveKinds enters ∙ five-cons e es ∙ ap (λ (l : List Record). fiveKinds (e ∷ []) ++ l) (f .same-five);

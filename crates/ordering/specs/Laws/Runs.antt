@@ -53,7 +53,40 @@ module _
     pub carried-leaves : after s (x ∷ xs) ≡ after (apply (x .named) r s .state) xs
     carried-leaves = rw (step-accepted (x .named) s (x .log) (x .at) r next h reads p)
 
--- What holds of no steps, and of one accepted step more in front, holds of every list of steps from a sound state.
+-- What holds of no steps, and of one step more in front, refused or accepted, holds of every list of steps from a sound state.
+module _
+    (P : List Reading → State → List Entry → State → Type 0)
+    (no-steps : (s : State) → sound s ≡ true → P [] s [] s)
+    (one-refused :
+    (x : Reading) (xs : List Reading) (s : State) (es : List Entry) (end : State) → P xs s es end → P (x ∷ xs) s es end)
+    (one-accepted :
+    (s : State) (x : Reading) (r : Record) (next : ℕ) →
+    sound s ≡ true →
+    decode (x .log) (x .at) ≡ Whole r next →
+    refusal s r ≡ none →
+    (xs : List Reading) (es : List Entry) (end : State) →
+    P xs (apply (x .named) r s .state) es end →
+    P (x ∷ xs) s (entry (x .named) r s ∷ es) end)
+  where
+    pub along-readings : (xs : List Reading) (s : State) → sound s ≡ true → P xs s (accepted s xs) (after s xs)
+    along-readings [] s h = no-steps s h
+    along-readings (x ∷ xs) s h = at (course (x .named) s (x .log) (x .at)) (along-readings xs)
+      where
+        at :
+            Course (x .named) s (x .log) (x .at) →
+            ((t : State) → sound t ≡ true → P xs t (accepted t xs) (after t xs)) →
+            P (x ∷ xs) s (accepted s (x ∷ xs)) (after s (x ∷ xs))
+        at (turned-away n t) rest =
+            let enters : accepted s (x ∷ xs) ≡ accepted s xs = rw t in
+            let leaves : after s (x ∷ xs) ≡ after s xs = rw t in
+            subst₂ (P (x ∷ xs) s) (sym enters) (sym leaves) (one-refused x xs s (accepted s xs) (after s xs) (rest s h))
+        at (carried-out r k reads p t) rest =
+            let next = pastRecord (x .log) (x .at) in
+            let s′ = apply (x .named) r s .state in
+            subst₂ (P (x ∷ xs) s) (sym (carried-enters s x xs r next h reads p)) (sym (carried-leaves s x xs r next h reads p))
+            (one-accepted s x r next h reads p xs (accepted s′ xs) (after s′ xs) (rest s′ (sound-kept (x .named) s r h p)))
+
+-- The same of the accepted steps alone.
 module _
     (P : State → List Entry → State → Type 0)
     (no-steps : (s : State) → sound s ≡ true → P s [] s)
@@ -67,22 +100,8 @@ module _
     P s (entry (x .named) r s ∷ es) end)
   where
     pub along : (xs : List Reading) (s : State) → sound s ≡ true → P s (accepted s xs) (after s xs)
-    along [] s h = no-steps s h
-    along (x ∷ xs) s h = at (course (x .named) s (x .log) (x .at)) (along xs)
-      where
-        at :
-            Course (x .named) s (x .log) (x .at) →
-            ((t : State) → sound t ≡ true → P t (accepted t xs) (after t xs)) →
-            P s (accepted s (x ∷ xs)) (after s (x ∷ xs))
-        at (turned-away n t) rest =
-            let enters : accepted s (x ∷ xs) ≡ accepted s xs = rw t in
-            let leaves : after s (x ∷ xs) ≡ after s xs = rw t in
-            subst₂ (P s) (sym enters) (sym leaves) (rest s h)
-        at (carried-out r k reads p t) rest =
-            let next = pastRecord (x .log) (x .at) in
-            let s′ = apply (x .named) r s .state in
-            subst₂ (P s) (sym (carried-enters s x xs r next h reads p)) (sym (carried-leaves s x xs r next h reads p))
-            (one-more s x r next h reads p (accepted s′ xs) (after s′ xs) (rest s′ (sound-kept (x .named) s r h p)))
+    along =
+        along-readings (λ xs. P) no-steps (λ x xs s es end rest. rest) (λ s x r next h reads p xs. one-more s x r next h reads p)
 
 -- A list of steps keeps a sound state sound.
 pub sound-after : (xs : List Reading) (s : State) → sound s ≡ true → sound (after s xs) ≡ true

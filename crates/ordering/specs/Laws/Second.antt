@@ -1,12 +1,13 @@
 -- The second half of the ordering claim: the second list, step by step along the first, and what the two lists leave.
 -- Assumes nothing.
 use mathlib.Core.Path.{_≡_, refl, sym, ap, subst, _∙_}
-use mathlib.Core.Bool.{true}
+use mathlib.Core.Bool.{Bool, true}
 use mathlib.Core.List.{List, [], _∷_}
 use mathlib.Core.Option.{none}
 use Prim.Native.Nat.{ℕ}
 use borrow.Author.Tests.{not-true}
 use lib.ListN.{getD-replicate}
+use Rattle.base.specs.Laws.Tests.{both-left, both-right}
 use Rattle.broker.specs.Checks.{refusal}
 use Rattle.broker.specs.Laws.Alike.{settled-unless-migrating, status-alike, same-standings}
 use Rattle.broker.specs.Laws.Core.{core, coreStep, valuesBetween, unread-values}
@@ -23,9 +24,9 @@ use Rattle.broker.specs.declared.process.Process.{Process}
 use Rattle.broker.specs.declared.record.Decoded.the-variants.{Whole}
 use Rattle.broker.specs.declared.record.Record.{Record}
 use Rattle.broker.specs.declared.record.Record.the-variants.{Start, Call, Route, Send, Take, Move, Heed, Drain, Land, Part, End, Look}
-use Rattle.ordering.specs.Claim.{Reading, Entry, after, accepted, taken, fiveKinds, SecondHalf}
+use Rattle.ordering.specs.Claim.{Reading, isBytes, areBytes, Entry, after, accepted, taken, fiveKinds, SecondHalf}
 use Rattle.ordering.specs.Laws.Following.{Following, nothing-follows, follows-as}
-use Rattle.ordering.specs.Laws.Runs.{fresh-sound, entry, taken-cons, five-cons, along, sound-after}
+use Rattle.ordering.specs.Laws.Runs.{fresh-sound, entry, taken-cons, five-cons, along-readings, sound-after}
 use Rattle.ordering.specs.Laws.Sends.{send-stands}
 use Rattle.ordering.specs.Laws.Stands.{Standing, nothing-stands, start-stands, take-stands, move-stands, end-stands}
 
@@ -51,32 +52,41 @@ stands s q x (Part a b) next hs quiet same reads p = nothing-stands s q x (Part 
 stands s q x (End r) next hs quiet same reads p = end-stands s q x next quiet same r reads p
 stands s q x (Look r) next hs quiet same reads p = nothing-stands s q x (Look r) quiet refl refl (λ c d. refl)
 
--- from any quiet state with the core of s, a list with the five kinds and the takes of the entries, that leaves the core of the end
-abbrev Followed : State → List Entry → State → Type 0
-Followed s es end =
-    (q : State) → Quiet q → core q ≡ core s → Following none q (fiveKinds es) (λ a b. taken a b es) (core end)
+-- from any quiet state with the core of s, a list with the five kinds and the takes of the entries, that leaves the core of the end; in
+-- bytes, where the readings are
+abbrev Followed : List Reading → State → List Entry → State → Type 0
+Followed xs s es end =
+    (inBytes : Bool) →
+    (inBytes ≡ true → areBytes xs ≡ true) →
+    (q : State) →
+    Quiet q →
+    core q ≡ core s →
+    Following inBytes none q (fiveKinds es) (λ a b. taken a b es) (core end)
 
 step-followed :
     (s : State) (x : Reading) (r : Record) (next : ℕ) →
     sound s ≡ true →
     decode (x .log) (x .at) ≡ Whole r next →
     refusal s r ≡ none →
-    (es : List Entry) (end : State) →
-    Followed (apply (x .named) r s .state) es end →
-    Followed s (entry (x .named) r s ∷ es) end
-step-followed s x r next h reads p es end rest q quiet same =
+    (xs : List Reading) (es : List Entry) (end : State) →
+    Followed xs (apply (x .named) r s .state) es end →
+    Followed (x ∷ xs) s (entry (x .named) r s ∷ es) end
+step-followed s x r next h reads p xs es end rest inBytes bytes q quiet same =
     let e = entry (x .named) r s in
     let now = stands s q x r next h quiet same reads p in
+    let here : inBytes ≡ true → isBytes x ≡ true = λ t. both-left (isBytes x) (areBytes xs) (bytes t) in
+    let later : inBytes ≡ true → areBytes xs ≡ true = λ t. both-right (isBytes x) (areBytes xs) (bytes t) in
     let same′ = now .alike ∙ ap (coreStep r) same ∙ sym (core-step (x .named) s r h p) in
     rw (five-cons e es)
     (follows-as (λ a b. sym (taken-cons a b e es))
-    (now .follows (fiveKinds es) (λ a b. taken a b es) (core end) (rest (now .then) (now .quiet) same′)))
+    (now .follows inBytes here (fiveKinds es) (λ a b. taken a b es) (core end) (rest inBytes later (now .then) (now .quiet) same′)))
 
 -- Every list from a sound state is followed.
-followed : (xs : List Reading) (s : State) → sound s ≡ true → Followed s (accepted s xs) (after s xs)
+followed : (xs : List Reading) (s : State) → sound s ≡ true → Followed xs s (accepted s xs) (after s xs)
 followed =
-    along Followed
-    (λ s h q quiet same. subst (Following none q [] (λ a b. [])) same (nothing-follows q quiet))
+    along-readings Followed
+    (λ s h inBytes bytes q quiet same. subst (Following inBytes none q [] (λ a b. [])) same (nothing-follows inBytes q quiet))
+    (λ x xs s es end rest inBytes bytes. rest inBytes (λ t. both-right (isBytes x) (areBytes xs) (bytes t)))
     step-followed
 
 -- The fresh state is quiet.
@@ -96,11 +106,12 @@ fresh-quiet =
 
 pub second-half : SecondHalf
 second-half xs landed =
-    let f = followed xs fresh fresh-sound fresh fresh-quiet refl in
+    let f = followed xs fresh fresh-sound (areBytes xs) (λ t. t) fresh fresh-quiet refl in
     let end = after fresh xs in
     let end′ = after fresh (f .list) in
     record {
       list = f .list;
+      bytes = f .bytes;
       all-accepted = f .all-accepted;
       moves-unbroken = f .moves-unbroken;
       same-steps = f .same-five;

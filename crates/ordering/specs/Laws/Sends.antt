@@ -1,7 +1,7 @@
 -- What stands in the second list for a send: a call, its route, once more where the posted vmid was not the current end, the send, and the
 -- parting. Assumes nothing.
 use mathlib.Core.Path.{_≡_, refl, sym, ap, _∙_}
-use mathlib.Core.Bool.{true, false}
+use mathlib.Core.Bool.{Bool, true, false}
 use mathlib.Core.List.{List, _∷_}
 use mathlib.Core.Option.{none}
 use Prim.Native.Nat.{ℕ}
@@ -27,14 +27,18 @@ use Rattle.broker.specs.declared.process.Vmid.{Vmid}
 use Rattle.broker.specs.declared.record.Decoded.the-variants.{Whole}
 use Rattle.broker.specs.declared.record.Record.{Record}
 use Rattle.broker.specs.declared.record.Record.the-variants.{Call, Route, Send, Part}
-use Rattle.ordering.specs.Claim.{Reading}
+use Rattle.ordering.specs.Claim.{Reading, isByte, isBytes}
 use Rattle.ordering.specs.Laws.Following.{Following, step-follows}
-use Rattle.ordering.specs.Laws.Stands.{Standing, ofTwo, quiet-after}
+use Rattle.ordering.specs.Laws.Stands.{Standing, ofTwo, two-is-bytes, quiet-after}
 
 -- A send that s accepts, from a state with the same core.
 module _ (s : State) (a b : Rank) (v : ℕ) (hs : sound s ≡ true) (p : refusal s (Send a b v) ≡ none) where
   two : Two s a b
   two = send-fits s a b v (passes s (Send a b v) p) .two
+
+  -- a record that names the two is in bytes
+  named-in-bytes : (kind : ℕ) → isByte kind ≡ true → isBytes (ofTwo kind a b) ≡ true
+  named-in-bytes kind known = two-is-bytes kind known a b (two .first) (two .second)
 
   -- the routes of a call, to a state in which the two ranks are joined: none of the five kinds, and no take
   record Way (x : State) : Type 0 where
@@ -43,9 +47,9 @@ module _ (s : State) (a b : Rank) (v : ℕ) (hs : sound s ≡ true) (p : refusal
     joined : Joined then a b
     alike : core then ≡ core s
     follows :
-        (five : List Record) (takes : Rank → Rank → List ℕ) (c : Core) →
-        Following none then five takes c →
-        Following none x five takes c
+        (inBytes : Bool) (five : List Record) (takes : Rank → Rank → List ℕ) (c : Core) →
+        Following inBytes none then five takes c →
+        Following inBytes none x five takes c
 
   -- One route.
   module _ (x : State) (u : Vmid) (calling : Calling x a b u) (h : sound x ≡ true) (same : core x ≡ core s) where
@@ -67,11 +71,12 @@ module _ (s : State) (a b : Rank) (v : ℕ) (hs : sound s ≡ true) (p : refusal
     routed-alike = core-step (rank 0) x (Route a b) h routes ∙ same
 
     routed-follows :
-        (five : List Record) (takes : Rank → Rank → List ℕ) (c : Core) →
-        Following none routed five takes c →
-        Following none x five takes c
+        (inBytes : Bool) (five : List Record) (takes : Rank → Rank → List ℕ) (c : Core) →
+        Following inBytes none routed five takes c →
+        Following inBytes none x five takes c
     unfolding routed decode
-    routed-follows five takes c f = step-follows x (ofTwo Kind.route a b) (Route a b) 3 refl h routes (λ l. refl) f
+    routed-follows inBytes five takes c f =
+        step-follows x (ofTwo Kind.route a b) (Route a b) 3 (λ t. named-in-bytes Kind.route refl) refl h routes (λ l. refl) f
 
     -- A call that is posted to the current end is routed there.
     joins : sameVmid u (endpoint (status x b)) ≡ true → Way x
@@ -109,7 +114,8 @@ module _ (s : State) (a b : Rank) (v : ℕ) (hs : sound s ≡ true) (p : refusal
         is-sound = w .is-sound;
         joined = w .joined;
         alike = w .alike;
-        follows = λ five takes c f. routed-follows x u calling h same five takes c (w .follows five takes c f);
+        follows =
+            λ inBytes five takes c f. routed-follows x u calling h same inBytes five takes c (w .follows inBytes five takes c f);
       })
 
   pub send-stands :
@@ -137,9 +143,10 @@ module _ (s : State) (a b : Rank) (v : ℕ) (hs : sound s ≡ true) (p : refusal
         quiet = quiet-after (rank 0) sent (Part a b) sent-sound parts (part-calm sent a b sent-joined (two .first) (two .second));
         alike = core-step (rank 0) sent (Part a b) sent-sound parts ∙ sent-core ∙ ap (coreStep (Send a b v)) (sym same);
         follows =
-            λ fs ts c f.
-            step-follows q (ofTwo Kind.call a b) (Call a b) 3 refl (quiet .is-sound) calls (λ l. refl)
-            (w .follows (Send a b v ∷ fs) ts c
-            (step-follows (w .then) x (Send a b v) next reads (w .is-sound) sends (λ l. refl)
-            (step-follows sent (ofTwo Kind.part a b) (Part a b) 3 refl sent-sound parts (λ l. refl) f)));
+            λ inBytes bytes fs ts c f.
+            step-follows q (ofTwo Kind.call a b) (Call a b) 3 (λ t. named-in-bytes Kind.call refl) refl (quiet .is-sound) calls (λ l. refl)
+            (w .follows inBytes (Send a b v ∷ fs) ts c
+            (step-follows (w .then) x (Send a b v) next bytes reads (w .is-sound) sends (λ l. refl)
+            (step-follows sent (ofTwo Kind.part a b) (Part a b) 3 (λ t. named-in-bytes Kind.part refl) refl sent-sound parts (λ l. refl)
+            f)));
       }

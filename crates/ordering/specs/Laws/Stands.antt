@@ -1,10 +1,13 @@
 -- What stands in the second list for one accepted step of the first: nothing, the step itself, or a move and its landing at once. What
 -- stands for a send is `Sends`. Assumes nothing.
 use mathlib.Core.Path.{_≡_, refl, sym, ap, _∙_}
-use mathlib.Core.Bool.{true}
+use mathlib.Core.Bool.{Bool, true}
 use mathlib.Core.List.{List, [], _∷_, _++_, head-eq-of-cons-eq}
 use mathlib.Core.Option.{none, some}
-use Prim.Native.Nat.{ℕ}
+use Prim.Native.Nat.{ℕ, _<_}
+use native.Mathlib.Omega.{arith}
+use borrow.Author.Tests.{lt-ltb}
+use Rattle.base.specs.Laws.Tests.{both}
 use Rattle.transit.specs.declared.Rank.{Rank}
 use Rattle.broker.specs.Checks.{refusal}
 use Rattle.broker.specs.Kind
@@ -16,7 +19,7 @@ use Rattle.broker.specs.Laws.CoreStep.{core-step, take-value}
 use Rattle.broker.specs.Laws.Kept.{sound-kept}
 use Rattle.broker.specs.Laws.Quiet.{AllQuiet, Moving, Quiet, start-calm, take-calm, end-calm, move-calm, land-calm}
 use Rattle.broker.specs.Laws.State.{sameRank-self}
-use Rattle.transit.specs.Message.{rank}
+use Rattle.transit.specs.Message.{ranks, rank}
 use Rattle.broker.specs.Record.{decode}
 use Rattle.broker.specs.Sound.{sound}
 use Rattle.broker.specs.State.{State}
@@ -24,7 +27,7 @@ use Rattle.broker.specs.Step.{apply}
 use Rattle.broker.specs.declared.record.Decoded.the-variants.{Whole}
 use Rattle.broker.specs.declared.record.Record.{Record}
 use Rattle.broker.specs.declared.record.Record.the-variants.{Start, Take, Move, Land, End}
-use Rattle.ordering.specs.Claim.{Reading, taken, fiveKinds}
+use Rattle.ordering.specs.Claim.{Reading, isByte, isBytes, taken, fiveKinds}
 use Rattle.ordering.specs.Laws.Following.{Following, Leads, step-follows, follows-as}
 use Rattle.ordering.specs.Laws.Runs.{entry}
 
@@ -35,13 +38,34 @@ ofOne kind r = record { log = kind ∷ r .0 ∷ []; at = 0; named = rank 0 }
 abbrev pub ofTwo : ℕ → Rank → Rank → Reading
 ofTwo kind a b = record { log = kind ∷ a .0 ∷ b .0 ∷ []; at = 0; named = rank 0 }
 
+-- Such logs are bytes.
+rank-is-byte : (r : Rank) → r .0 < ranks → isByte (r .0) ≡ true
+rank-is-byte r hr = lt-ltb (r .0) 256 (omega arith)
+
+module _ (kind : ℕ) (known : isByte kind ≡ true) where
+  pub one-is-bytes : (r : Rank) → r .0 < ranks → isBytes (ofOne kind r) ≡ true
+  one-is-bytes r hr = both known (both (rank-is-byte r hr) refl)
+
+  pub two-is-bytes : (a b : Rank) → a .0 < ranks → b .0 < ranks → isBytes (ofTwo kind a b) ≡ true
+  two-is-bytes a b ha hb = both known (both (rank-is-byte a ha) (both (rank-is-byte b hb) refl))
+
 -- what stands for a record that s accepts: from q to a quiet state, whose core is changed as the record changes it
 pub record Standing (s q : State) (x : Reading) (r : Record) : Type 0 where
   pub then : State
   pub quiet : Quiet then
   pub alike : core then ≡ coreStep r (core q)
-  pub follows : (five : List Record) (takes : Rank → Rank → List ℕ) (c : Core) → Following none then five takes c
-      → Following none q (fiveKinds (entry (x .named) r s ∷ []) ++ five) (λ a b. taken a b (entry (x .named) r s ∷ []) ++ takes a b) c
+  pub follows :
+      (inBytes : Bool) →
+      (inBytes ≡ true → isBytes x ≡ true) →
+      (five : List Record) (takes : Rank → Rank → List ℕ) (c : Core) →
+      Following inBytes none then five takes c →
+      Following
+      inBytes
+      none
+      q
+      (fiveKinds (entry (x .named) r s ∷ []) ++ five)
+      (λ a b. taken a b (entry (x .named) r s ∷ []) ++ takes a b)
+      c
 
 -- Nothing stands for a record that leaves the core and is none of the five.
 pub nothing-stands :
@@ -56,7 +80,7 @@ nothing-stands s q x r quiet same five takes =
       then = q;
       quiet = quiet;
       alike = sym same;
-      follows = λ fs ts c f. rw five (follows-as (λ a b. rw (takes a b)) f);
+      follows = λ inBytes bytes fs ts c f. rw five (follows-as (λ a b. rw (takes a b)) f);
     }
 
 -- A state that is calm behind an accepted record is quiet.
@@ -84,9 +108,9 @@ module _ (s q : State) (x : Reading) (next : ℕ) (quiet : Quiet q) (same : core
         quiet = quiet-after (x .named) q r (quiet .is-sound) p calm;
         alike = core-step (x .named) q r (quiet .is-sound) p;
         follows =
-            λ fs ts c f.
+            λ inBytes bytes fs ts c f.
             follows-as (λ a b. ap (λ (l : List ℕ). l ++ ts a b) (takes a b))
-            (step-follows q x r next reads (quiet .is-sound) p leads f);
+            (step-follows q x r next bytes reads (quiet .is-sound) p leads f);
       }
 
   pub start-stands :
@@ -140,7 +164,8 @@ module _ (s q : State) (x : Reading) (next : ℕ) (quiet : Quiet q) (same : core
         quiet = quiet-after (rank 0) q′ (Land r) h′ lands (land-calm q′ r moving hr);
         alike = core-step (rank 0) q′ (Land r) h′ lands ∙ core-step (x .named) q (Move r h) (quiet .is-sound) p′;
         follows =
-            λ fs ts c f.
-            step-follows {then = some r} q x (Move r h) next reads (quiet .is-sound) p′ (λ l. refl)
-            (step-follows q′ (ofOne Kind.land r) (Land r) 2 refl h′ lands (λ l. rw (sameRank-self r)) f);
+            λ inBytes bytes fs ts c f.
+            step-follows {then = some r} q x (Move r h) next bytes reads (quiet .is-sound) p′ (λ l. refl)
+            (step-follows q′ (ofOne Kind.land r) (Land r) 2 (λ t. one-is-bytes Kind.land refl r hr) refl h′ lands
+            (λ l. rw (sameRank-self r)) f);
       }

@@ -151,6 +151,7 @@ overlapping-second =
     (landed apart-steps)
     overlapping-comes-to
     apart-comes-to
+    refl
     apart-accepted
     refl
     refl

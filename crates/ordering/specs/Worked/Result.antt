@@ -25,6 +25,7 @@ use Rattle.ordering.specs.Claim.{
   Reading,
   Entry,
   SecondList,
+  areBytes,
   after,
   accepted,
   everyAccepted,
@@ -97,6 +98,7 @@ pub second :
     (xs ys : List Reading) (r q : Result) →
     result xs ≡ r →
     result ys ≡ q →
+    areBytes ys ≡ true →
     everyAccepted fresh ys ≡ true →
     unbroken none (records (q .steps)) ≡ true →
     fiveKinds (q .steps) ≡ fiveKinds (r .steps) →
@@ -104,13 +106,14 @@ pub second :
     q .holds ≡ r .holds →
     q .processes ≡ r .processes →
     SecondList xs
-second xs ys r q there here all moves five took holds processes =
+second xs ys r q there here bytes all moves five took holds processes =
     let same-holds = ap (λ (p : Result). p .holds) here ∙ holds ∙ sym (ap (λ (p : Result). p .holds) there) in
     let same-values : (a b : Rank) → taken a b (q .steps) ≡ taken a b (r .steps) =
     λ a b. rw (← taken-of-takes a b (q .steps), took) (taken-of-takes a b (r .steps)) in
     let same-processes = ap (λ (p : Result). p .processes) here ∙ processes ∙ sym (ap (λ (p : Result). p .processes) there) in
     record {
       list = ys;
+      bytes = λ first. bytes;
       all-accepted = all;
       moves-unbroken = ap (λ (p : Result). unbroken none (records (p .steps))) here ∙ moves;
       same-steps =
