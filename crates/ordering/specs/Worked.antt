@@ -1,5 +1,7 @@
--- Worked examples, computed from the definitions: what a list of steps comes to, and what the claim says of it.
+-- Worked examples, computed from the definitions: what a list of steps comes to, what the claim says of it, and what the claim counts.
 pub mod Account
 pub mod Result
+pub mod Unbroken
+pub mod Counted
 pub mod Examples
 pub mod Listing
