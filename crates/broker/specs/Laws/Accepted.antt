@@ -1,23 +1,47 @@
 -- What it takes for each kind to be accepted: the rows of the table of checks that speak of the kind, read as facts.
 -- Assumes nothing.
 use mathlib.Core.Path.{_≡_, refl}
-use mathlib.Core.Bool.{Bool, true, false, not, cond, _&&_, _||_}
-use mathlib.Core.List.{List, [], _∷_}
+use mathlib.Core.Bool.{Bool, true, false, not, _&&_, _||_}
+use mathlib.Core.Option.{none}
 use Prim.Native.Nat.{ℕ, _<_}
-use native.Mathlib.Omega.{arith}
-use borrow.Author.Tests.{ltb-true, lt-ltb, leb-false, lt-leb, eqb-true, eq-eqb, eqb-false, ne-eqb, not-false, not-true}
+use borrow.Author.Tests.{ltb-true, leb-false, not-false}
 use lib.Dec.{eqb, leb, ltb}
-use Rattle.base.specs.Laws.Tests.{both, both-left, both-right, not-both, or-false-left}
-use Rattle.base.specs.Lists.{tally, every}
+use Rattle.base.specs.Laws.Tests.{both-left, both-right, not-both, or-false-left}
+use Rattle.base.specs.Lists.{tally}
 use Rattle.transit.specs.Message.{sameRank, between, to, at, isRank, ranks}
 use Rattle.transit.specs.Unread.{limit}
 use Rattle.transit.specs.declared.Place.the-variants.{SourceChannel}
 use Rattle.transit.specs.declared.Rank.{Rank}
-use Rattle.broker.specs.Checks.{rankRange, hostRange, rankTwice, notStarted, alreadyStarted, hasEnded, firstMigrating, notMigrating, connected, requestOpen, noRequest, notConnected, peerMigrating, noNotice, sameHost, backlogLeft, noBacklog, nothingToDrain, nothingUnread, unreadLeft, full, numbersSpent}
-use Rattle.broker.specs.Laws.Checks.{Passes}
-use Rattle.broker.specs.Laws.Ranks.{everyRank-at, everyRank-of}
+use Rattle.broker.specs.Checks.{refusal}
+use Rattle.broker.specs.Laws.Checks.{passes}
+use Rattle.broker.specs.Laws.Opened.{openedChecks}
+use Rattle.broker.specs.Laws.Ranks.{everyRank-at}
 use Rattle.broker.specs.Names.{hosts, numbers, isStarted, isRunning, isMigrating, isEnded, endpoint, isOpenRequest, asksFor, isClosed, isOpen, isClosing, isClear, isUnheeded}
 use Rattle.broker.specs.State.{State, status, request, connection, backlog, drawnOn, messages}
+use Rattle.broker.specs.declared.answer.Refusal.the-variants.{
+  RankRange,
+  HostRange,
+  SameRank,
+  NotStarted,
+  AlreadyStarted,
+  HasEnded,
+  IsMigrating,
+  NotMigrating,
+  Connected,
+  RequestOpen,
+  NoRequest,
+  NotConnected,
+  PeerMigrating,
+  NoNotice,
+  SameHost,
+  BacklogLeft,
+  NoBacklog,
+  NothingToDrain,
+  NothingUnread,
+  UnreadLeft,
+  Full,
+  NumbersSpent,
+}
 use Rattle.broker.specs.declared.link.Connection.{Connection}
 use Rattle.broker.specs.declared.link.Connection.the-variants.{Closed, Open, Closing}
 use Rattle.broker.specs.declared.process.Status.{Status}
@@ -185,132 +209,144 @@ two-of s a b h e k =
           one-only (isStarted (status s b)) (both-right (isStarted (status s a)) (isStarted (status s b) && true) (from-not _ k));
     }
 
-pub start-fits : (s : State) (r : Rank) (h : ℕ) → Passes s (Start r h) → StartFits s r h
-unfolding rankRange hostRange alreadyStarted numbersSpent
-start-fits s r h p =
+pub start-fits : (s : State) (r : Rank) (h : ℕ) → refusal s (Start r h) ≡ none → StartFits s r h
+unfolding openedChecks
+start-fits s r h accepted =
+    let passed = passes s (Start r h) accepted in
     record {
-      in-range = ltb-true (r .0) ranks (one-only (isRank r) (from-not _ (p .rank-range)));
-      host = ltb-true h 8 (one-only (ltb h hosts) (from-not _ (p .host-range)));
-      unstarted = p .already-started;
-      room = leb-false numbers (drawnOn s h) (or-none (leb numbers (drawnOn s h)) (p .numbers-spent));
+      in-range = ltb-true (r .0) ranks (one-only (isRank r) (from-not _ (passed RankRange)));
+      host = ltb-true h 8 (one-only (ltb h hosts) (from-not _ (passed HostRange)));
+      unstarted = passed AlreadyStarted;
+      room = leb-false numbers (drawnOn s h) (or-none (leb numbers (drawnOn s h)) (passed NumbersSpent));
     }
 
-pub call-fits : (s : State) (a b : Rank) → Passes s (Call a b) → CallFits s a b
-unfolding rankRange rankTwice notStarted hasEnded firstMigrating connected requestOpen
-call-fits s a b p =
-    let two = two-of s a b (p .rank-range) (p .rank-twice) (p .not-started) in
+pub call-fits : (s : State) (a b : Rank) → refusal s (Call a b) ≡ none → CallFits s a b
+unfolding openedChecks
+call-fits s a b accepted =
+    let passed = passes s (Call a b) accepted in
+    let two = two-of s a b (passed RankRange) (passed SameRank) (passed NotStarted) in
     record {
       two = two;
-      running = running-of (status s a) (two .first-started) (p .has-ended) (p .first-migrating);
-      closed = from-not _ (or-none (not (isClosed (connection s a b))) (or-none _ (p .is-connected)));
-      idle = p .request-open;
+      running = running-of (status s a) (two .first-started) (passed HasEnded) (passed IsMigrating);
+      closed = from-not _ (or-none (not (isClosed (connection s a b))) (or-none _ (passed Connected)));
+      idle = passed RequestOpen;
     }
 
-pub route-fits : (s : State) (a b : Rank) → Passes s (Route a b) → RouteFits s a b
-unfolding rankRange rankTwice notStarted noRequest
-route-fits s a b p =
+pub route-fits : (s : State) (a b : Rank) → refusal s (Route a b) ≡ none → RouteFits s a b
+unfolding openedChecks
+route-fits s a b accepted =
+    let passed = passes s (Route a b) accepted in
     record {
-      two = two-of s a b (p .rank-range) (p .rank-twice) (p .not-started);
-      asks = and-true-of (asksFor b (request s a)) (from-not _ (p .no-request));
+      two = two-of s a b (passed RankRange) (passed SameRank) (passed NotStarted);
+      asks = and-true-of (asksFor b (request s a)) (from-not _ (passed NoRequest));
     }
   where
     and-true-of : (x : Bool) → (x || false) ≡ true → x ≡ true
     and-true-of true h = refl
     and-true-of false h = h
 
-pub send-fits : (s : State) (a b : Rank) (v : ℕ) → Passes s (Send a b v) → SendFits s a b
-unfolding rankRange rankTwice notStarted hasEnded firstMigrating notConnected full
-send-fits s a b v p =
-    let two = two-of s a b (p .rank-range) (p .rank-twice) (p .not-started) in
+pub send-fits : (s : State) (a b : Rank) (v : ℕ) → refusal s (Send a b v) ≡ none → SendFits s a b
+unfolding openedChecks
+send-fits s a b v accepted =
+    let passed = passes s (Send a b v) accepted in
+    let two = two-of s a b (passed RankRange) (passed SameRank) (passed NotStarted) in
     record {
       two = two;
-      running = running-of (status s a) (two .first-started) (p .has-ended) (p .first-migrating);
-      line = or-none (isClosed (connection s a b)) (p .not-connected);
-      room = leb-false limit (s .unread .count) (p .is-full);
+      running = running-of (status s a) (two .first-started) (passed HasEnded) (passed IsMigrating);
+      line = or-none (isClosed (connection s a b)) (passed NotConnected);
+      room = leb-false limit (s .unread .count) (passed Full);
     }
 
-pub take-fits : (s : State) (b a : Rank) → Passes s (Take b a) → TakeFits s b a
-unfolding rankRange rankTwice notStarted hasEnded firstMigrating nothingUnread
-take-fits s b a p =
-    let two = two-of s b a (p .rank-range) (p .rank-twice) (p .not-started) in
+pub take-fits : (s : State) (b a : Rank) → refusal s (Take b a) ≡ none → TakeFits s b a
+unfolding openedChecks
+take-fits s b a accepted =
+    let passed = passes s (Take b a) accepted in
+    let two = two-of s b a (passed RankRange) (passed SameRank) (passed NotStarted) in
     record {
       two = two;
-      running = running-of (status s b) (two .first-started) (p .has-ended) (p .first-migrating);
-      unread = or-none (eqb (tally (between a b) (messages s)) 0) (or-none _ (p .nothing-unread));
+      running = running-of (status s b) (two .first-started) (passed HasEnded) (passed IsMigrating);
+      unread = or-none (eqb (tally (between a b) (messages s)) 0) (or-none _ (passed NothingUnread));
     }
 
-pub move-fits : (s : State) (r : Rank) (h : ℕ) → Passes s (Move r h) → MoveFits s r h
-unfolding rankRange hostRange notStarted hasEnded firstMigrating requestOpen sameHost numbersSpent
-move-fits s r h p =
-    let one = one-of s r (p .rank-range) (p .not-started) in
+pub move-fits : (s : State) (r : Rank) (h : ℕ) → refusal s (Move r h) ≡ none → MoveFits s r h
+unfolding openedChecks
+move-fits s r h accepted =
+    let passed = passes s (Move r h) accepted in
+    let one = one-of s r (passed RankRange) (passed NotStarted) in
     record {
       one = one;
-      host = ltb-true h 8 (one-only (ltb h hosts) (from-not _ (p .host-range)));
-      running = running-of (status s r) (one .started) (p .has-ended) (p .first-migrating);
-      idle = p .request-open;
-      elsewhere = or-none (eqb h (endpoint (status s r) .0)) (p .same-host);
-      room = leb-false numbers (drawnOn s h) (or-none (leb numbers (drawnOn s h)) (p .numbers-spent));
+      host = ltb-true h 8 (one-only (ltb h hosts) (from-not _ (passed HostRange)));
+      running = running-of (status s r) (one .started) (passed HasEnded) (passed IsMigrating);
+      idle = passed RequestOpen;
+      elsewhere = or-none (eqb h (endpoint (status s r) .0)) (passed SameHost);
+      room = leb-false numbers (drawnOn s h) (or-none (leb numbers (drawnOn s h)) (passed NumbersSpent));
     }
 
-pub heed-fits : (s : State) (b r : Rank) → Passes s (Heed b r) → HeedFits s b r
-unfolding rankRange rankTwice notStarted hasEnded noNotice
-heed-fits s b r p =
+pub heed-fits : (s : State) (b r : Rank) → refusal s (Heed b r) ≡ none → HeedFits s b r
+unfolding openedChecks
+heed-fits s b r accepted =
+    let passed = passes s (Heed b r) accepted in
     record {
-      two = two-of s b r (p .rank-range) (p .rank-twice) (p .not-started);
-      not-ended = p .has-ended;
-      notice = from-not _ (or-none (not (isClosing (connection s b r))) (p .no-notice));
+      two = two-of s b r (passed RankRange) (passed SameRank) (passed NotStarted);
+      not-ended = passed HasEnded;
+      notice = from-not _ (or-none (not (isClosing (connection s b r))) (passed NoNotice));
     }
 
-pub drain-fits : (s : State) (r q : Rank) → Passes s (Drain r q) → DrainFits s r q
-unfolding rankRange rankTwice notStarted notMigrating noBacklog nothingToDrain
-drain-fits s r q p =
+pub drain-fits : (s : State) (r q : Rank) → refusal s (Drain r q) ≡ none → DrainFits s r q
+unfolding openedChecks
+drain-fits s r q accepted =
+    let passed = passes s (Drain r q) accepted in
     record {
-      two = two-of s r q (p .rank-range) (p .rank-twice) (p .not-started);
-      migrating = from-not _ (p .not-migrating);
-      awaits = or-none (isClear (backlog s r q)) (p .no-backlog);
-      ready = or-none _ (p .nothing-to-drain);
+      two = two-of s r q (passed RankRange) (passed SameRank) (passed NotStarted);
+      migrating = from-not _ (passed NotMigrating);
+      awaits = or-none (isClear (backlog s r q)) (passed NoBacklog);
+      ready = or-none _ (passed NothingToDrain);
     }
 
-pub land-fits : (s : State) (r : Rank) → Passes s (Land r) → LandFits s r
-unfolding rankRange notStarted notMigrating backlogLeft
-land-fits s r p =
+pub land-fits : (s : State) (r : Rank) → refusal s (Land r) ≡ none → LandFits s r
+unfolding openedChecks
+land-fits s r accepted =
+    let passed = passes s (Land r) accepted in
     record {
-      one = one-of s r (p .rank-range) (p .not-started);
-      migrating = from-not _ (p .not-migrating);
-      clear = everyRank-at (λ q. isClear (backlog s r q)) (from-not _ (p .backlog-left));
+      one = one-of s r (passed RankRange) (passed NotStarted);
+      migrating = from-not _ (passed NotMigrating);
+      clear = everyRank-at (λ q. isClear (backlog s r q)) (from-not _ (passed BacklogLeft));
     }
 
-pub part-fits : (s : State) (a b : Rank) → Passes s (Part a b) → PartFits s a b
-unfolding rankRange rankTwice notStarted hasEnded firstMigrating notConnected peerMigrating
-part-fits s a b p =
-    let two = two-of s a b (p .rank-range) (p .rank-twice) (p .not-started) in
+pub part-fits : (s : State) (a b : Rank) → refusal s (Part a b) ≡ none → PartFits s a b
+unfolding openedChecks
+part-fits s a b accepted =
+    let passed = passes s (Part a b) accepted in
+    let two = two-of s a b (passed RankRange) (passed SameRank) (passed NotStarted) in
     record {
       two = two;
-      running = running-of (status s a) (two .first-started) (p .has-ended) (p .first-migrating);
+      running = running-of (status s a) (two .first-started) (passed HasEnded) (passed IsMigrating);
       plain =
           open-of (connection s a b)
-          (or-none (isClosed (connection s a b)) (p .not-connected))
-          (or-none (isClosing (connection s a b)) (p .peer-migrating));
+          (or-none (isClosed (connection s a b)) (passed NotConnected))
+          (or-none (isClosing (connection s a b)) (passed PeerMigrating));
     }
 
-pub end-fits : (s : State) (r : Rank) → Passes s (End r) → EndFits s r
-unfolding rankRange notStarted hasEnded firstMigrating connected requestOpen unreadLeft
-end-fits s r p =
-    let one = one-of s r (p .rank-range) (p .not-started) in
+pub end-fits : (s : State) (r : Rank) → refusal s (End r) ≡ none → EndFits s r
+unfolding openedChecks
+end-fits s r accepted =
+    let passed = passes s (End r) accepted in
+    let one = one-of s r (passed RankRange) (passed NotStarted) in
     record {
       one = one;
-      running = running-of (status s r) (one .started) (p .has-ended) (p .first-migrating);
-      closed = everyRank-at (λ q. isClosed (connection s r q)) (from-not _ (p .is-connected));
-      idle = p .request-open;
-      nothing = from-not _ (p .unread-left);
+      running = running-of (status s r) (one .started) (passed HasEnded) (passed IsMigrating);
+      closed = everyRank-at (λ q. isClosed (connection s r q)) (from-not _ (passed Connected));
+      idle = passed RequestOpen;
+      nothing = from-not _ (passed UnreadLeft);
     }
 
-pub look-fits : (s : State) (r : Rank) → Passes s (Look r) → LookFits s r
-unfolding rankRange notStarted hasEnded firstMigrating nothingUnread
-look-fits s r p =
-    let one = one-of s r (p .rank-range) (p .not-started) in
+pub look-fits : (s : State) (r : Rank) → refusal s (Look r) ≡ none → LookFits s r
+unfolding openedChecks
+look-fits s r accepted =
+    let passed = passes s (Look r) accepted in
+    let one = one-of s r (passed RankRange) (passed NotStarted) in
     record {
       one = one;
-      running = running-of (status s r) (one .started) (p .has-ended) (p .first-migrating);
-      unread = p .nothing-unread;
+      running = running-of (status s r) (one .started) (passed HasEnded) (passed IsMigrating);
+      unread = passed NothingUnread;
     }

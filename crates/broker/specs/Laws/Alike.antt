@@ -15,7 +15,6 @@ use Rattle.transit.specs.declared.Rank.{Rank}
 use Rattle.broker.specs.Checks.{refusal}
 use Rattle.broker.specs.Laws.Accepted.{One, Two, SendFits, start-fits, send-fits, take-fits, move-fits, end-fits, started-of-migrating, running-not-ended, open-not-closed}
 use Rattle.broker.specs.Laws.Accepts.{start-accepted, call-accepted, route-accepted, send-accepted, take-accepted, move-accepted, land-accepted, part-accepted, end-accepted}
-use Rattle.broker.specs.Laws.Checks.{passes}
 use Rattle.broker.specs.Laws.Core.{Core, core, settled, letter, core-status, endpoint-settled}
 use Rattle.broker.specs.Laws.Quiet.{Calm, AllQuiet, Moving, Calling, Joined, nobody}
 use Rattle.broker.specs.Laws.Sound.{Pairs, facts}
@@ -144,7 +143,7 @@ module _ (s x : State) (same : core x ≡ core s) where
 module _ (s x : State) (same : core x ≡ core s) (c : AllQuiet x) where
   pub start-again : (r : Rank) (h : ℕ) → refusal s (Start r h) ≡ none → refusal x (Start r h) ≡ none
   start-again r h p =
-      let f = start-fits s r h (passes s (Start r h) p) in
+      let f = start-fits s r h p in
       start-accepted x r h
       (record {
         in-range = f .in-range;
@@ -155,7 +154,7 @@ module _ (s x : State) (same : core x ≡ core s) (c : AllQuiet x) where
 
   pub take-again : (b a : Rank) → refusal s (Take b a) ≡ none → refusal x (Take b a) ≡ none
   take-again b a p =
-      let f = take-fits s b a (passes s (Take b a) p) in
+      let f = take-fits s b a p in
       take-accepted x b a
       (record {
         two = two-alike s x (same-standings same) c b a (f .two);
@@ -165,7 +164,7 @@ module _ (s x : State) (same : core x ≡ core s) (c : AllQuiet x) where
 
   pub move-again : (r : Rank) (h : ℕ) → refusal s (Move r h) ≡ none → refusal x (Move r h) ≡ none
   move-again r h p =
-      let f = move-fits s r h (passes s (Move r h) p) in
+      let f = move-fits s r h p in
       let hr = f .one .in-range in
       move-accepted x r h
       (record {
@@ -179,7 +178,7 @@ module _ (s x : State) (same : core x ≡ core s) (c : AllQuiet x) where
 
   pub end-again : (r : Rank) → refusal s (End r) ≡ none → refusal x (End r) ≡ none
   end-again r p =
-      let f = end-fits s r (passes s (End r) p) in
+      let f = end-fits s r p in
       let hr = f .one .in-range in
       end-accepted x r
       (record {
@@ -204,7 +203,7 @@ land-after x r hr c =
 -- A send that s accepts, on its way through calm states with the same standings: called, routed, sent, parted.
 module _ (s : State) (a b : Rank) (v : ℕ) (p : refusal s (Send a b v) ≡ none) (x : State) (standing : core x .statuses ≡ core s .statuses) where
   fits : SendFits s a b
-  fits = send-fits s a b v (passes s (Send a b v) p)
+  fits = send-fits s a b v p
 
   first : a .0 < ranks
   first = fits .two .first

@@ -22,7 +22,6 @@ use Rattle.broker.specs.Checks.{refusal}
 use Rattle.broker.specs.Connect.{call, route, part}
 use Rattle.broker.specs.Laws.Accepted.{SendFits, TakeFits, LandFits, send-fits, take-fits, land-fits}
 use Rattle.broker.specs.Laws.Cases.{drain-cases}
-use Rattle.broker.specs.Laws.Checks.{passes}
 use Rattle.broker.specs.Laws.Core.{core, settled, letter, arrives, coreStep, valuesBetween, map-set, without-map, eachTo-letters, firstTo-letters, core-status, endpoint-settled}
 use Rattle.base.specs.Laws.Tests.{not-both}
 use Rattle.broker.specs.Laws.Sound.{facts}
@@ -124,12 +123,12 @@ unfolding apply look
 core-step named s (Start r h) sd p = start-core s r h
 core-step named s (Call a b) sd p = call-core s a b
 core-step named s (Route a b) sd p = route-core s a b
-core-step named s (Send a b v) sd p = send-core s a b v (send-fits s a b v (passes s (Send a b v) p))
-core-step named s (Take b a) sd p = take-core s b a sd (take-fits s b a (passes s (Take b a) p))
+core-step named s (Send a b v) sd p = send-core s a b v (send-fits s a b v p)
+core-step named s (Take b a) sd p = take-core s b a sd (take-fits s b a p)
 core-step named s (Move r h) sd p = move-core s r h
 core-step named s (Heed b r) sd p = heed-core s b r
 core-step named s (Drain r q) sd p = drain-core s r q
-core-step named s (Land r) sd p = land-core s r (land-fits s r (passes s (Land r) p))
+core-step named s (Land r) sd p = land-core s r (land-fits s r p)
 core-step named s (Part a b) sd p = part-core s a b
 core-step named s (End r) sd p = end-core s r
 core-step named s (Look r) sd p = refl

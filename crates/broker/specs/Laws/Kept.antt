@@ -10,7 +10,6 @@ use mathlib.Core.Bool.{true}
 use mathlib.Core.Option.{none}
 use Rattle.transit.specs.declared.Rank.{Rank}
 use Rattle.broker.specs.Checks.{refusal}
-use Rattle.broker.specs.Laws.Checks.{Passes, passes}
 use Rattle.broker.specs.Laws.Fit.{ends-from-fits, unheeded-from-fits, places-from-fits}
 use Rattle.broker.specs.Laws.Kept.Names.{names-kept}
 use Rattle.broker.specs.Laws.Kept.Order.{order-kept}
@@ -22,7 +21,7 @@ use Rattle.broker.specs.State.{State, messages}
 use Rattle.broker.specs.Step.{apply}
 use Rattle.broker.specs.declared.record.Record.{Record}
 
-facts-kept : (named : Rank) (s : State) (r : Record) → Facts s → Passes s r → Facts (apply named r s .state)
+facts-kept : (named : Rank) (s : State) (r : Record) → Facts s → refusal s r ≡ none → Facts (apply named r s .state)
 facts-kept named s r f p =
     let after = apply named r s .state in
     let views = views-kept named s r f p in
@@ -45,4 +44,4 @@ facts-kept named s r f p =
 
 -- "Every step keeps a sound state sound."
 pub sound-kept : (named : Rank) (s : State) (r : Record) → sound s ≡ true → refusal s r ≡ none → sound (apply named r s .state) ≡ true
-sound-kept named s r h p = of-facts (apply named r s .state) (facts-kept named s r (facts s h) (passes s r p))
+sound-kept named s r h p = of-facts (apply named r s .state) (facts-kept named s r (facts s h) p)

@@ -14,7 +14,6 @@ use Rattle.broker.specs.Connect.{call, route, part}
 use Rattle.broker.specs.Kind
 use Rattle.broker.specs.Laws.Accepted.{start-fits, move-fits, land-fits, end-fits, running-not-migrating}
 use Rattle.broker.specs.Laws.Cases.{drain-cases}
-use Rattle.broker.specs.Laws.Checks.{passes}
 use Rattle.broker.specs.Laws.Sound.{facts}
 use Rattle.broker.specs.Laws.Standings.{standings, standing-at, standings-with-status, standings-with-request, call-unseen, route-unseen}
 use Rattle.broker.specs.Laws.State.{status-with}
@@ -57,7 +56,7 @@ module _ (s y : State) (p : Rank) (t : Status) (h : sound s ≡ true) (hp : p .0
 pub migrating-step : (named : Rank) (s : State) (x : Record) (r : Rank) → sound s ≡ true → refusal s x ≡ none → isMigrating (status (apply named x s .state) r) ≡ openAfter r (isMigrating (status s r)) x
 unfolding apply start send take move heed land part end look
 migrating-step named s (Start p h) r sd k =
-    let f = start-fits s p h (passes s (Start p h) k) in
+    let f = start-fits s p h k in
     same-movers s (start p h s .state) r
     (standings-with-status isMigrating s p (Running (nextVmid s h)) (sym (unstarted-not-migrating (status s p) (f .unstarted))))
 migrating-step named s (Call a b) r sd k =
@@ -69,17 +68,17 @@ migrating-step named s (Route a b) r sd k =
 migrating-step named s (Send a b v) r sd k = refl
 migrating-step named s (Take b a) r sd k = refl
 migrating-step named s (Move p h) r sd k =
-    let f = move-fits s p h (passes s (Move p h) k) in
+    let f = move-fits s p h k in
     migrates-as s (move p h s .state) p (Migrating (endpoint (status s p)) (nextVmid s h)) sd (f .one .in-range) refl r
 migrating-step named s (Heed b p) r sd k = refl
 migrating-step named s (Drain p q) r sd k =
     drain-cases (λ t. isMigrating (status t r) ≡ isMigrating (status s r)) p q s refl refl
 migrating-step named s (Land p) r sd k =
-    let f = land-fits s p (passes s (Land p) k) in
+    let f = land-fits s p k in
     migrates-as s (land p s .state) p (Running (endpoint (status s p))) sd (f .one .in-range) refl r
 migrating-step named s (Part a b) r sd k = refl
 migrating-step named s (End p) r sd k =
-    let f = end-fits s p (passes s (End p) k) in
+    let f = end-fits s p k in
     same-movers s (end p s .state) r
     (standings-with-status isMigrating s p (Ended (endpoint (status s p))) (sym (running-not-migrating (status s p) (f .running))))
 migrating-step named s (Look p) r sd k = refl

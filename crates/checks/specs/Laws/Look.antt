@@ -15,7 +15,6 @@ use Rattle.transit.specs.declared.Message.{Message}
 use Rattle.transit.specs.declared.Rank.{Rank}
 use Rattle.broker.specs.Checks.{refusal}
 use Rattle.broker.specs.Laws.Accepted.{look-fits}
-use Rattle.broker.specs.Laws.Checks.{passes}
 use Rattle.broker.specs.Laws.State.{sameRank-self}
 use Rattle.broker.specs.Messages.{unreadBetween}
 use Rattle.broker.specs.State.{State, messages}
@@ -42,5 +41,5 @@ oldest-has-unread s r h = sender-counts r (messages s) h
 -- and so it does where the look is accepted
 pub accepted-look-has-unread : (s : State) (r : Rank) → refusal s (Look r) ≡ none → 0 < unreadBetween (oldest s r) r s
 accepted-look-has-unread s r h =
-    let apart = eqb-false (tally (to r) (messages s)) 0 (look-fits s r (passes s (Look r) h) .unread) in
+    let apart = eqb-false (tally (to r) (messages s)) 0 (look-fits s r h .unread) in
     oldest-has-unread s r (pos-of-ne-zero apart)

@@ -12,7 +12,6 @@ use Rattle.transit.specs.Message.{sameRank, between}
 use Rattle.transit.specs.declared.Rank.{Rank}
 use Rattle.broker.specs.Checks.{refusal}
 use Rattle.broker.specs.Laws.Accepted.{take-fits}
-use Rattle.broker.specs.Laws.Checks.{passes}
 use Rattle.broker.specs.Laws.Core.{Core, core, coreStep, valuesBetween, unread-values}
 use Rattle.broker.specs.Laws.CoreStep.{core-step, take-value}
 use Rattle.broker.specs.Laws.State.{sameRank-eq, sameRank-self}
@@ -49,7 +48,7 @@ take-balanced a b named s d c sd p =
     (λ e. rw e (other (rw e)))
   where
     same : Balanced c d named s (Take d c)
-    same = rw (sameRank-self c, sameRank-self d) (take-value s d c sd (take-fits s d c (passes s (Take d c) p)) ∙ sym (append-nil _))
+    same = rw (sameRank-self c, sameRank-self d) (take-value s d c sd (take-fits s d c p) ∙ sym (append-nil _))
 
     other : (sameRank c a && sameRank d b) ≡ false → valuesBetween a b (coreStep (Take d c) (core s)) ≡ valuesBetween a b (core s) ++ []
     other e = rw (append-nil, without-other (between a b) (between c d) (other-pair c d a b e) (core s .letters))

@@ -11,7 +11,6 @@ use Rattle.broker.specs.Checks.{refusal}
 use Rattle.broker.specs.Kind
 use Rattle.broker.specs.Laws.Accepted.{Two, send-fits}
 use Rattle.broker.specs.Laws.Alike.{call-before, route-before, send-again, part-behind, receiver-runs, status-alike, same-standings}
-use Rattle.broker.specs.Laws.Checks.{passes}
 use Rattle.broker.specs.Laws.Core.{Core, core, coreStep}
 use Rattle.broker.specs.Laws.CoreStep.{core-step}
 use Rattle.broker.specs.Laws.Kept.{sound-kept}
@@ -34,7 +33,7 @@ use Rattle.ordering.specs.Laws.Stands.{Standing, ofTwo, two-is-bytes, qu
 -- A send that s accepts, from a state with the same core.
 module _ (s : State) (a b : Rank) (v : ℕ) (hs : sound s ≡ true) (p : refusal s (Send a b v) ≡ none) where
   two : Two s a b
-  two = send-fits s a b v (passes s (Send a b v) p) .two
+  two = send-fits s a b v p .two
 
   -- a record that names the two is in bytes
   named-in-bytes : (kind : ℕ) → isByte kind ≡ true → isBytes (ofTwo kind a b) ≡ true

@@ -13,7 +13,6 @@ use Rattle.broker.specs.Checks.{refusal}
 use Rattle.broker.specs.Kind
 use Rattle.broker.specs.Laws.Accepted.{start-fits, take-fits, move-fits, end-fits}
 use Rattle.broker.specs.Laws.Alike.{start-again, take-again, move-again, end-again, land-after}
-use Rattle.broker.specs.Laws.Checks.{passes}
 use Rattle.broker.specs.Laws.Core.{Core, core, coreStep, valuesBetween}
 use Rattle.broker.specs.Laws.CoreStep.{core-step, take-value}
 use Rattle.broker.specs.Laws.Kept.{sound-kept}
@@ -121,13 +120,13 @@ module _ (s q : State) (x : Reading) (next : ℕ) (quiet : Quiet q) (same : core
   unfolding apply
   start-stands r h reads p =
       itself-stands (Start r h) reads (start-again s q same (quiet .calm) r h p) (λ l. refl) (λ a b. refl)
-      (start-calm q r h (quiet .calm) (start-fits s r h (passes s (Start r h) p) .in-range))
+      (start-calm q r h (quiet .calm) (start-fits s r h p .in-range))
 
   pub end-stands : (r : Rank) → decode (x .log) (x .at) ≡ Whole (End r) next → refusal s (End r) ≡ none → Standing s q x (End r)
   unfolding apply
   end-stands r reads p =
       itself-stands (End r) reads (end-again s q same (quiet .calm) r p) (λ l. refl) (λ a b. refl)
-      (end-calm q r (quiet .calm) (end-fits s r (passes s (End r) p) .one .in-range))
+      (end-calm q r (quiet .calm) (end-fits s r p .one .in-range))
 
   -- A take answers the same value from both.
   pub take-stands :
@@ -139,8 +138,8 @@ module _ (s q : State) (x : Reading) (next : ℕ) (quiet : Quiet q) (same : core
   unfolding apply
   take-stands b a hs reads p =
       let p′ = take-again s q same (quiet .calm) b a p in
-      let here = take-value q b a (quiet .is-sound) (take-fits q b a (passes q (Take b a) p′)) in
-      let there = take-value s b a hs (take-fits s b a (passes s (Take b a) p)) in
+      let here = take-value q b a (quiet .is-sound) (take-fits q b a p′) in
+      let there = take-value s b a hs (take-fits s b a p) in
       let v1 = head-eq-of-cons-eq (here ∙ ap (valuesBetween a b) same ∙ sym there) in
       itself-stands (Take b a) reads p′ (λ l. refl) (λ c d. ap (λ (n : ℕ). taken c d (record { read = Take b a; v1 = n } ∷ [])) v1)
       (take-calm q b a (quiet .calm))
@@ -154,7 +153,7 @@ module _ (s q : State) (x : Reading) (next : ℕ) (quiet : Quiet q) (same : core
   unfolding apply decode
   move-stands r h reads p =
       let p′ = move-again s q same (quiet .calm) r h p in
-      let hr = move-fits s r h (passes s (Move r h) p) .one .in-range in
+      let hr = move-fits s r h p .one .in-range in
       let q′ = apply (x .named) (Move r h) q .state in
       let h′ = sound-kept (x .named) q (Move r h) (quiet .is-sound) p′ in
       let moving : Moving q′ r = move-calm q r h (quiet .calm) hr in

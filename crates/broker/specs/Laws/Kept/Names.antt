@@ -3,6 +3,7 @@
 use mathlib.Core.Path.{_≡_, refl}
 use mathlib.Core.Bool.{true, false, not, cond, _&&_}
 use mathlib.Core.List.{List}
+use mathlib.Core.Option.{none}
 use Prim.Native.Nat.{ℕ, _+_, _<_, _≤_}
 use native.Mathlib.Omega.{arith}
 use borrow.Author.Tests.{lt-ltb}
@@ -14,10 +15,10 @@ use Rattle.base.specs.Laws.Lists.{every-wider}
 use Rattle.transit.specs.Message.{sameRank, isRank, ranks, cells}
 use Rattle.transit.specs.Unread.{Unread}
 use Rattle.transit.specs.declared.Rank.{Rank}
+use Rattle.broker.specs.Checks.{refusal}
 use Rattle.broker.specs.Connect.{call, route, part, withdraw}
 use Rattle.broker.specs.Laws.Accepted.{StartFits, CallFits, RouteFits, MoveFits, LandFits, EndFits, start-fits, call-fits, route-fits, move-fits, land-fits, end-fits, running-not-ended, migrating-not-ended}
 use Rattle.broker.specs.Laws.Cases.{chosen-at, route-cases, drain-cases}
-use Rattle.broker.specs.Laws.Checks.{Passes}
 use Rattle.base.specs.Laws.Stores.{long-set}
 use Rattle.broker.specs.Laws.Each.{announced-own, announced-other}
 use Rattle.broker.specs.Laws.Kept.Shape.{shape-with-locations, shape-with-drawn, shape-connect, shape-withdraw}
@@ -304,7 +305,7 @@ module _ {s : State} (f : Shape s) (n : Names s) where
         (both (lt-ltb (b .0) ranks second) drawn))
 
 -- every accepted record keeps the names sound
-pub names-kept : (named : Rank) (s : State) (r : Record) → Facts s → Passes s r → Names (apply named r s .state)
+pub names-kept : (named : Rank) (s : State) (r : Record) → Facts s → refusal s r ≡ none → Names (apply named r s .state)
 unfolding apply part send take look heed
 names-kept named s (Start r h) f p = names-start (f .shape) (f .names) r h (start-fits s r h p)
 names-kept named s (Call a b) f p = names-call (f .shape) (f .names) a b (call-fits s a b p)

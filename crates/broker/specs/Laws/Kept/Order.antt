@@ -3,6 +3,7 @@
 use mathlib.Core.Path.{_≡_, refl, sym, _∙_}
 use mathlib.Core.Bool.{Bool, true, false, not, cond, Bool·beq, _&&_, _||_}
 use mathlib.Core.List.{List, [], _∷_, _++_, map}
+use mathlib.Core.Option.{none}
 use Prim.Native.Nat.{ℕ, _+_, _<_, _≤_}
 use native.Mathlib.Omega.{arith}
 use borrow.Author.Tests.{lt-ltb, ltb-true, le-leb, lt-leb, leb-true, eqb-true, eqb-false}
@@ -39,9 +40,9 @@ use Rattle.transit.specs.declared.Place.{Place}
 use Rattle.transit.specs.declared.Place.the-variants.{SourceList, SourceChannel, EndList, Channel}
 use Rattle.transit.specs.declared.Rank.{Rank}
 use Rattle.transit.specs.declared.Selection.the-variants.{ToAt, Between, BetweenAt}
+use Rattle.broker.specs.Checks.{refusal}
 use Rattle.broker.specs.Connect.{call, connectBoth, withdraw, route, onChannel, part}
 use Rattle.broker.specs.Laws.Accepted.{running-not-migrating, Two, SendFits, send-fits, move-fits, land-fits}
-use Rattle.broker.specs.Laws.Checks.{Passes}
 use Rattle.base.specs.Laws.Rising.{every-chosen, without-shorter, neverFalls-changeFirst}
 use Rattle.broker.specs.Laws.Sound.{AtPairs, Facts, isNamed, fitsUnheeded, fitsPlace}
 use Rattle.broker.specs.Laws.State.{sameRank-eq}
@@ -388,7 +389,7 @@ module _ (s : State) (f : Facts s) where
       (messages s) (f .mail .named) (f .mail .places-fit)))
 
   -- Each kind keeps the facts.
-  in-order-kept : (named : Rank) (r : Record) → Passes s r → InOrder (apply named r s .state .unread)
+  in-order-kept : (named : Rank) (r : Record) → refusal s r ≡ none → InOrder (apply named r s .state .unread)
   unfolding apply start call send take move heed drain land part end look
   in-order-kept named (Start r h) p = facts-order
   in-order-kept named (Call a b) p = facts-order
@@ -412,7 +413,7 @@ pub record Order (s : State) : Type 0 where
   pub places-rise : AtPairs (λ a b. neverFalls (map (λ m. placeNumber (m .place)) (select (between a b) (messages s))))
 
 -- Every accepted record keeps the unread messages counted, named and in order.
-pub order-kept : (named : Rank) (s : State) (r : Record) → Facts s → Passes s r → Order (apply named r s .state)
+pub order-kept : (named : Rank) (s : State) (r : Record) → Facts s → refusal s r ≡ none → Order (apply named r s .state)
 order-kept named s r f p =
     let o = in-order-kept s f named r p in
     record { few = o .few; counted = o .counted; named = o .named; places-rise = o .places-rise }

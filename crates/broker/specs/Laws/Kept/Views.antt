@@ -2,6 +2,7 @@
 use mathlib.Core.Path.{_≡_, refl, sym, ap, subst, _∙_}
 use mathlib.Core.Bool.{Bool, true, false, cond, not, _&&_, _||_, and-comm}
 use mathlib.Core.List.{List, [], _∷_, map}
+use mathlib.Core.Option.{none}
 use Prim.Native.Nat.{ℕ, suc, _<_}
 use native.Mathlib.Omega.{arith}
 use borrow.Author.Tests.{eqb-true, lt-ltb}
@@ -21,11 +22,11 @@ use Rattle.transit.specs.declared.Place.the-variants.{SourceList, SourceChannel
 use Rattle.transit.specs.declared.Rank.{Rank}
 use Rattle.transit.specs.declared.Selection.{Selection}
 use Rattle.transit.specs.declared.Selection.the-variants.{ToAt, Between, BetweenAt}
+use Rattle.broker.specs.Checks.{refusal}
 use Rattle.broker.specs.Connect.{call, route, part, routeToEnded, routeThere, routeOn, onChannel}
 use Rattle.broker.specs.Laws.Accepted
 use Rattle.broker.specs.Laws.Changes
 use Rattle.broker.specs.Laws.Changes.{byRole, stays, anyMessage, leftPlace, readPlace, landedPlace}
-use Rattle.broker.specs.Laws.Checks.{Passes}
 use Rattle.broker.specs.Laws.Effect.{Effect, roleOf, roleBetween, pairs-stay, message-stays}
 use Rattle.broker.specs.Laws.Fit.{guarded, at-side, at-pair, fits, pair-fits, messages-fit, every-and, nothingWith, runs-as}
 use Rattle.broker.specs.Laws.Kept.Effects
@@ -182,8 +183,8 @@ module _ (s s' : State) (c : Change) (role : Rank → Rank → Role) (kept : T (
 
   -- the same, where no message changes
   views-still : ((r : Rank) → r .0 < ranks → nothingWith s' r ≡ true) → messages s' ≡ messages s → ((k : Role) (x : Place) → c .place k x ≡ x) → every (λ m. c .askedOf (role (m .receiver) (m .sender)) (m .place)) (messages s) ≡ true → Views s'
-  views-still self list none asked =
-      views-of self (λ m. m) (list ∙ sym (map-still (messages s))) (λ m. ap (λ (x : Place). relabelled x m) (sym (none (role (m .receiver) (m .sender)) (m .place)))) asked
+  views-still self list unmoved asked =
+      views-of self (λ m. m) (list ∙ sym (map-still (messages s))) (λ m. ap (λ (x : Place). relabelled x m) (sym (unmoved (role (m .receiver) (m .sender)) (m .place)))) asked
 
 -- Each kind.
 module _ (s : State) (f : Facts s) where
@@ -396,14 +397,14 @@ module _ (s : State) (f : Facts s) where
           (rw (relabels-first (onSourceChannel p r) (s .unread) SourceList)
           (every-changeFirst (fits s) (λ m. between p r m && at-place SourceChannel m) (relabelled SourceList) drained (messages s) (messages-fit s (f .mail))))
       at Nothing e =
-          let none = nothing-found (λ m. between p r m && at-place SourceChannel m) (messages s) e in
-          let ready : isUnheeded (backlog s r p) ≡ false = rw none at (k .ready) in
+          let nothing = nothing-found (λ m. between p r m && at-place SourceChannel m) (messages s) e in
+          let ready : isUnheeded (backlog s r p) ≡ false = rw nothing at (k .ready) in
           views-still s (withLinks (await r p Clear (s .links)) s) Changes.clearing (roleBetween r p) Changes.clearing-keeps f (Effects.clear-effect s f r p k ready)
           (Effects.clear-self s f r p k ready) refl no-place
-          (every-wider (λ m. not (between p r m && at-place SourceChannel m)) (λ m. byRole (λ x. not (samePlace x SourceChannel)) anyMessage anyMessage (roleBetween r p (m .receiver) (m .sender)) (m .place)) (λ m h. elsewhere (sameRank (m .sender) p) (sameRank (m .receiver) r) (sameRank (m .receiver) p && sameRank (m .sender) r) (m .place) h) (messages s) (none-passes (λ m. between p r m && at-place SourceChannel m) (messages s) none))
+          (every-wider (λ m. not (between p r m && at-place SourceChannel m)) (λ m. byRole (λ x. not (samePlace x SourceChannel)) anyMessage anyMessage (roleBetween r p (m .receiver) (m .sender)) (m .place)) (λ m h. elsewhere (sameRank (m .sender) p) (sameRank (m .receiver) r) (sameRank (m .receiver) p && sameRank (m .sender) r) (m .place) h) (messages s) (none-passes (λ m. between p r m && at-place SourceChannel m) (messages s) nothing))
 
 -- every accepted record keeps the pairs sound and every message's place fit
-pub views-kept : (named : Rank) (s : State) (r : Record) → Facts s → Passes s r → Views (apply named r s .state)
+pub views-kept : (named : Rank) (s : State) (r : Record) → Facts s → refusal s r ≡ none → Views (apply named r s .state)
 unfolding apply look
 views-kept named s (Start r h) f p = views-start s f r h (Accepted.start-fits s r h p)
 views-kept named s (Call a b) f p = views-call s f a b (Accepted.call-fits s a b p)

@@ -1,11 +1,12 @@
 -- `settle::apply::apply` meets its contract: each arm is what its kind's function ensures, and what it asks follows from the checks.
 -- Assumes nothing.
+use mathlib.Core.Option.{none}
 use mathlib.Core.Path.{_≡_}
 use native.Mathlib.Nat.{pos-of-ne-zero}
 use borrow.Author.Needs.{needs}
 use borrow.Author.Tests.{eqb-false}
+use Rattle.broker.specs.Checks.{refusal}
 use Rattle.broker.specs.Laws.Accepted.{start-fits, send-fits, take-fits, move-fits, heed-fits, drain-fits, land-fits, part-fits}
-use Rattle.broker.specs.Laws.Checks.{Passes, passes}
 use Rattle.broker.specs.State.{State}
 use Rattle.broker.specs.Step.{apply}
 use Rattle.broker.specs.declared.record.Record.{Record}
@@ -19,8 +20,8 @@ abbrev desk : tie.Start → State
 desk c = deskOf (c .args .slots .now) (c .args .contents .now) (c .args .roster .now)
 
 -- no check applies to the record
-passing : (c : tie.Start) (r : Record) → c .args .read ≡ r → Passes (desk c) r
-passing c r e = passes (desk c) r (rw e at (c .pre .1))
+passing : (c : tie.Start) (r : Record) → c .args .read ≡ r → refusal (desk c) r ≡ none
+passing c r e = rw e at (c .pre .1)
 
 start-requires : tie.Need-start-requires
 start-requires c κs =
