@@ -55,12 +55,6 @@ running-of (Running v) a b c = refl
 running-of (Migrating v w) a b c = absurd (not-both refl c)
 running-of (Ended v) a b c = absurd (not-both refl b)
 
-pub started-of-running : (t : Status) → isRunning t ≡ true → isStarted t ≡ true
-started-of-running Unstarted h = h
-started-of-running (Running v) h = refl
-started-of-running (Migrating v w) h = refl
-started-of-running (Ended v) h = refl
-
 pub started-of-migrating : (t : Status) → isMigrating t ≡ true → isStarted t ≡ true
 started-of-migrating Unstarted h = h
 started-of-migrating (Running v) h = refl

@@ -14,7 +14,7 @@ use Rattle.transit.specs.Message.{sameRank, rank, ranks, cells}
 use Rattle.transit.specs.declared.Rank.{Rank}
 use Rattle.broker.specs.Laws.Changes.{byRole}
 use Rattle.broker.specs.Laws.Effect.{roleOf, sameRank-turned, not-twice}
-use Rattle.broker.specs.Laws.Links.{connect-long, await-long, connect-connection, connect-backlog, await-connection, await-backlog}
+use Rattle.broker.specs.Laws.Links.{connect-long, connect-connection, connect-backlog, await-connection, await-backlog}
 use Rattle.broker.specs.Laws.State.{link-set, sameRank-eq, sameRank-self, sameRank-joins}
 use Rattle.broker.specs.Laws.View.{Role, forward, backward, outside}
 use Rattle.broker.specs.Migrate.{leave, leaveOver, leaveAll}

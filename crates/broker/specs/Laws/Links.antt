@@ -17,9 +17,6 @@ use Rattle.broker.specs.declared.link.Link.{Link}
 pub connect-long : (ls : List Link) (p q : Rank) (c : Connection) → length ls ≡ cells → length (connect p q c ls) ≡ cells
 connect-long ls p q c n = simp length-set n
 
-pub await-long : (ls : List Link) (p q : Rank) (g : Backlog) → length ls ≡ cells → length (await p q g ls) ≡ cells
-await-long ls p q g n = simp length-set n
-
 -- both ranks are the same
 same-pair : (a b p q : Rank) → (sameRank a p && sameRank b q) ≡ true → (ls : List Link) → linkAt ls a b ≡ linkAt ls p q
 same-pair a b p q e ls =

@@ -70,11 +70,6 @@ other-pair a b c d differ m of-pair =
     e ∙ sym (both senders receivers) ∙ differ)
     (λ e. e)
 
--- A message has one receiver only.
-pub other-receiver : (a b r : Rank) → sameRank r b ≡ false → (m : Message) → to r m ≡ true → between a b m ≡ false
-other-receiver a b r differ m received =
-    by-test (between a b m) (λ e. e ∙ sym (same-rank (m .receiver) r b received (to-receiver a b m e)) ∙ differ) (λ e. e)
-
 -- A message sent is one message more.
 pub append-length : (l : List Message) (m : Message) → length (l ++ m ∷ []) ≡ suc (length l)
 append-length l m = rw length-append (omega arith)

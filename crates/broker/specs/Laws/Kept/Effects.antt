@@ -27,12 +27,12 @@ use Rattle.broker.specs.State.{
   withLinks,
 }
 use Rattle.broker.specs.Connect.{call, route, part, routeToEnded, routeThere, routeOn, withdraw, connectBoth}
-use Rattle.broker.specs.Laws.Accepted.{StartFits, CallFits, RouteFits, MoveFits, HeedFits, DrainFits, LandFits, PartFits, EndFits, started-of-running}
+use Rattle.broker.specs.Laws.Accepted.{StartFits, CallFits, RouteFits, MoveFits, HeedFits, DrainFits, LandFits, PartFits, EndFits}
 use Rattle.broker.specs.Laws.Changes.{standAs, connectAs, awaitAs, askAs, same, anyPair, byRole, idling, starting, calling, withdrawing, joining, joined, leftLine, facedLine, moving, heeding, clearing, landing, parting, ending}
 use Rattle.broker.specs.Laws.Effect.{Effect, roleOf, roleBetween, roleOf-turned, roleBetween-turned, sameRank-turned, not-twice, exclusive}
 use Rattle.broker.specs.Laws.Fit.{nothingWith, lives-as, runs-as, migrates-as, started-as}
 use Rattle.broker.specs.Laws.Leaving.{leftBy, facedBy, leaveAll-at, leaveAll-self}
-use Rattle.broker.specs.Laws.Links.{connect-long, await-long, connect-connection, connect-backlog, await-connection, await-backlog}
+use Rattle.broker.specs.Laws.Links.{connect-long, connect-connection, connect-backlog, await-connection, await-backlog}
 use Rattle.broker.specs.Laws.Sound.{AtRanks, Facts, Pairs}
 use Rattle.broker.specs.Laws.State.{sameRank-eq, sameRank-self, sameRank-joins, status-with, request-with, status-with-request, request-with-status}
 use Rattle.broker.specs.Laws.View.{Standing, unstarted, running, migrating, ended, standing, hasStarted, runs, migrates, lives, Side, side, Role, forward, backward, outside, turn, Change}
