@@ -6,16 +6,13 @@ use crate::tree::{sources, Source};
 /// The quotient is below this, in hundredths.
 const MOST: usize = 300;
 
-/// Whether a file is proof: what is below proofs/, and the files of laws. The
-/// crate of the ordering claim is all proof, but for the claim.
+/// Whether a file is proof: what is below proofs/, and the files of laws.
 fn is_proof(path: &str) -> bool {
     let parts: Vec<&str> = path.split('/').collect();
-    match parts[..] {
-        ["crates", "ordering", "specs", "Claim.antt"] => false,
-        ["crates", "ordering", "specs", ..] | ["crates", _, "proofs", ..] => true,
-        ["crates", _, "specs", "Laws" | "Laws.antt", ..] => true,
-        _ => false,
-    }
+    matches!(
+        parts[..],
+        ["crates", _, "proofs", ..] | ["crates", _, "specs", "Laws" | "Laws.antt", ..]
+    )
 }
 
 fn is_code(path: &str) -> bool {
@@ -58,13 +55,14 @@ fn proof_is_told_from_definitions() {
         "crates/broker/specs/Laws/Kept/Names.antt",
         "crates/broker/specs/Laws.antt",
         "crates/steps/proofs/step/Proof.antt",
-        "crates/ordering/specs/First.antt",
+        "crates/ordering/specs/Laws/First.antt",
     ] {
         assert!(is_proof(path), "{path}");
     }
     for path in [
         "crates/broker/specs/Step.antt",
         "crates/ordering/specs/Claim.antt",
+        "crates/ordering/specs/Worked/Listing.antt",
     ] {
         assert!(!is_proof(path), "{path}");
     }
