@@ -17,7 +17,6 @@ use roster::write::awaiting;
 use roster::write::connect;
 use roster::write::set_link;
 use transit::Place;
-use transit::RANKS;
 use transit::Rank;
 use transit::Slots;
 use transit::relabel::relabel_to;
@@ -58,7 +57,7 @@ pub fn leave_all(r: Rank, roster: &mut Roster)
         (now (roster .entry)))) ⌝ }
 {
     let mut i: u8 = 0;
-    while i < RANKS {
+    while i < Rank::LIMIT {
         leave(r, Rank(i), roster);
         i += 1;
     }

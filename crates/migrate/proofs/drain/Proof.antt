@@ -38,4 +38,4 @@ returns-2 c =
 
 pub drain-spec : {M : Type 1} → statement M
 drain-spec =
-    tie.close (tie.spec (search needs) (search needs) (search needs) enum-told (search needs) returns returns-2)
+    tie.close (tie.spec (λ c κs. search needs) (search needs) (search needs) enum-told (search needs) returns returns-2)
