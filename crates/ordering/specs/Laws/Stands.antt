@@ -39,7 +39,7 @@ ofTwo kind a b = record { log = kind ∷ a .0 ∷ b .0 ∷ []; at = 0; named = r
 
 -- Such logs are bytes.
 rank-is-byte : (r : Rank) → r .0 < ranks → isByte (r .0) ≡ true
-rank-is-byte r hr = lt-ltb (r .0) 256 (omega arith)
+rank-is-byte r hr = lt-ltb (r .0) _ (omega arith)
 
 module _ (kind : ℕ) (known : isByte kind ≡ true) where
   pub one-is-bytes : (r : Rank) → r .0 < ranks → isBytes (ofOne kind r) ≡ true

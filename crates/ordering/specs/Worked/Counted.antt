@@ -25,6 +25,7 @@ use Rattle.ordering.specs.Claim.{
   isAccepted,
   everyAccepted,
   entryOf,
+  valueIn,
   sent,
   taken,
   unread,
@@ -33,7 +34,7 @@ use Rattle.ordering.specs.Claim.{
 }
 use Rattle.ordering.specs.Worked.Account.{Account, computed, from-fresh}
 use Rattle.ordering.specs.Worked.Result.{Result, brief, result, Balance, balance, whole, did, process}
-use Rattle.ordering.specs.Worked.Unbroken.{everyEntry}
+use Rattle.ordering.specs.Worked.Unbroken.{everyKind, everyEntry}
 
 -- Accepted steps.
 
@@ -101,6 +102,9 @@ last-refused-is-not-all-accepted =
     ap (λ (t : Account). t .all) (from-fresh (map whole ((Kind.start ∷ 0 ∷ 0 ∷ []) ∷ [] ∷ [])))
 
 -- Sent, taken and unread, from rank 0 to rank 1.
+
+pub only-a-send-has-a-value : map valueIn everyKind ≡ 0 ∷ 0 ∷ 0 ∷ 7 ∷ 0 ∷ 0 ∷ 0 ∷ 0 ∷ 0 ∷ 0 ∷ 0 ∷ 0 ∷ []
+only-a-send-has-a-value = refl
 
 -- sends and takes of this pair, with those of other pairs and a step of every kind between them
 abbrev exchanges : List Entry

@@ -87,6 +87,9 @@ overlapping-moves-are-broken = refl
 pub nested-moves-are-broken : unbroken none (Move (rank 0) 2 ∷ Move (rank 1) 3 ∷ Land (rank 1) ∷ Land (rank 0) ∷ []) ≡ false
 nested-moves-are-broken = refl
 
+pub move-inside-breaks : unbroken none (Move (rank 0) 2 ∷ Move (rank 1) 3 ∷ Land (rank 1) ∷ []) ≡ false
+move-inside-breaks = refl
+
 pub send-inside-breaks : unbroken none (Move (rank 1) 2 ∷ Send (rank 0) (rank 1) 7 ∷ Land (rank 1) ∷ []) ≡ false
 send-inside-breaks = refl
 
