@@ -1,34 +1,44 @@
 -- "Edges to prove" of paper 01, cases A to J: one table of runs from the fresh state, with what each step must answer and what must
--- hold at the end. That the whole table is true is `Laws/Edges`. Assumes nothing.
+-- hold at the end. That each case of the table is true is `Laws/Edges`. Assumes nothing.
+use mathlib.Core.Path.{_≡_}
 use mathlib.Core.Bool.{Bool, true, false, not, _&&_}
 use mathlib.Core.List.{List, [], _∷_, _++_}
 use Prim.Native.Nat.{ℕ}
 use lib.Dec.{eqb}
-use Rattle.base.specs.Lists.{every}
 use Rattle.broker.specs.Answer.{number}
 use Rattle.broker.specs.Kind
-use Rattle.broker.specs.Names.{isOpenRequest, isRunning, isMigrating, isClosed, isOpen, isMarked}
+use Rattle.broker.specs.Names.{isOpenRequest, isRunning, isMigrating, isOpen, isMarked}
 use Rattle.transit.specs.Message.{rank}
 use Rattle.broker.specs.State.{State, fresh, status, request, connection, backlog}
 use Rattle.broker.specs.Step.{Outcome, step}
+use Rattle.broker.specs.declared.answer.Answer.{Answer}
+use Rattle.broker.specs.declared.answer.Answer.the-variants.{Accepted, Refused}
 
--- a record that is a whole log, and the number that its step must answer: 0 where it must be accepted
+-- a record that is a whole log, and the test that its step's answer must pass
 pub record Try : Type 0 where
   pub log : List ℕ
-  pub answers : ℕ
+  pub fits : Answer → Bool
 
 abbrev pub accepts : List ℕ → Try
-accepts log = record { log = log; answers = 0 }
+accepts log = record { log = log; fits = λ a. eqb (number a) 0 }
 
 abbrev pub refuses : List ℕ → ℕ → Try
-refuses log n = record { log = log; answers = n }
+refuses log n = record { log = log; fits = λ a. eqb (number a) n }
+
+-- accepted, with these values
+abbrev pub gives : ℕ → ℕ → ℕ → Answer → Bool
+gives v1 v2 v3 (Accepted w1 w2 w3) = eqb w1 v1 && eqb w2 v2 && eqb w3 v3
+gives v1 v2 v3 (Refused n) = false
+
+abbrev pub answers : List ℕ → ℕ → ℕ → ℕ → Try
+answers log v1 v2 v3 = record { log = log; fits = gives v1 v2 v3 }
 
 -- the steps from a state, one after the other, each answered as it must be, and then the test of the state at the end; `go` is a step
 abbrev pub plays : (State → List ℕ → Outcome) → List Try → (State → Bool) → State → Bool
 plays go [] test s = test s
 plays go (t ∷ ts) test s =
     let o = go s (t .log) in
-    eqb (number (o .answer)) (t .answers) && plays go ts test (o .state)
+    t .fits (o .answer) && plays go ts test (o .state)
 
 -- a case of the table
 pub record Edge : Type 0 where
@@ -143,5 +153,16 @@ J =
       then = answered;
     }
 
-unfoldable pub edges : List Edge
-edges = A ∷ B ∷ C ∷ D ∷ E ∷ F ∷ G ∷ G-lands ∷ H ∷ I ∷ J ∷ []
+-- "Cases A to J below form one table whose truth, as a whole, is a theorem of the definitions."
+pub record EdgesHold : Type 0 where
+  pub case-A : holds A ≡ true
+  pub case-B : holds B ≡ true
+  pub case-C : holds C ≡ true
+  pub case-D : holds D ≡ true
+  pub case-E : holds E ≡ true
+  pub case-F : holds F ≡ true
+  pub case-G : holds G ≡ true
+  pub case-G-lands : holds G-lands ≡ true
+  pub case-H : holds H ≡ true
+  pub case-I : holds I ≡ true
+  pub case-J : holds J ≡ true

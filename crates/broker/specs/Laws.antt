@@ -19,8 +19,10 @@ pub mod Names
 pub mod Opened
 pub mod Quiet
 pub mod Ranks
+pub mod Records
 pub mod Sound
 pub mod Standings
 pub mod State
 pub mod Step
+pub mod Values
 pub mod View

@@ -15,3 +15,4 @@ pub mod Record
 pub mod Sound
 pub mod State
 pub mod Step
+pub mod Values
