@@ -133,7 +133,7 @@ loop-again-2 c =
 
 pub main-spec : {M : Type 1} → statement M
 main-spec =
-    tie.close (tie.spec Inv-loop μ-loop (search needs) (search needs) (search needs) loop-holds (search needs)
+    tie.close (tie.spec Inv-loop μ-loop (search needs) (search needs) (λ c κs. search needs) loop-holds (search needs)
     (search needs) turn-requires (search needs) slice-aggregate-write-all (search needs) (search needs) (search needs)
     (search needs) enum-told loop-less loop-again (search needs) (search needs) (search needs) (search needs)
     loop-less-2 loop-again-2 (search needs) (search needs) (search needs) (search needs) (search needs) (search needs)

@@ -12,5 +12,5 @@ abbrev μ-loop : tie.MeasureT-loop
 
 pub looks-spec : {M : Type 1} → statement M
 looks-spec =
-    tie.close (tie.spec Inv-loop μ-loop (search needs) (search needs) (search needs) (search needs) (search needs)
-    (search needs) (search needs) (search needs))
+    tie.close (tie.spec Inv-loop μ-loop (search needs) (λ c κs. search needs) (search needs) (search needs)
+    (search needs) (search needs) (search needs) (search needs))

@@ -14,5 +14,5 @@ abbrev μ-loop : tie.MeasureT-loop
 
 pub looks-in-place-spec : {M : Type 1} → statement M
 looks-in-place-spec =
-    tie.close (tie.spec Inv-loop μ-loop (search needs) (search needs) (search needs) (search needs) (search needs)
-    (search needs) (search needs) (search needs))
+    tie.close (tie.spec Inv-loop μ-loop (search needs) (λ c κs. search needs) (search needs) (search needs)
+    (search needs) (search needs) (search needs) (search needs))

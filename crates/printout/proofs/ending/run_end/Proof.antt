@@ -12,4 +12,4 @@ returns c =
 
 pub run-end-spec : {M : Type 1} → statement M
 run-end-spec =
-    tie.close (tie.spec (search needs) (search needs) (search needs) returns)
+    tie.close (tie.spec (search needs) (λ c κs. search needs) (search needs) returns)

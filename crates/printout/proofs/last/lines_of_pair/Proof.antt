@@ -52,4 +52,4 @@ returns-2 c =
 pub lines-of-pair-spec : {M : Type 1} → statement M
 lines-of-pair-spec =
     tie.close (tie.spec (search needs) returns (search needs) (search needs) (search needs) (search needs)
-    (search needs) (search needs) (search needs) (search needs) (search needs) (search needs) returns-2)
+    (search needs) (search needs) (search needs) (search needs) (λ c κs. search needs) (search needs) returns-2)

@@ -82,5 +82,5 @@ returns-4 c =
 pub run-piece-spec : {M : Type 1} → statement M
 run-piece-spec =
     tie.close (tie.spec Inv-loop μ-loop loop-holds (search needs) (search needs) returns (search needs) (search needs)
-    (search needs) (search needs) (search needs) (search needs) (search needs) loop-less loop-again enum-told
+    (search needs) (λ c κs. search needs) (search needs) (search needs) (search needs) loop-less loop-again enum-told
     (search needs) returns-2 (search needs) (search needs) returns-3 (search needs) returns-4)

@@ -110,5 +110,5 @@ pub turn-spec : {M : Type 1} → statement M
 turn-spec =
     tie.close (tie.spec returns (search needs) slice-aggregate-run-piece run-piece-requires keep-rest-requires
     add-further (search needs) enum-told (search needs) (search needs) (search needs) returns-2 (search needs)
-    slice-aggregate-run-end (search needs) (search needs) (search needs) returns-3 (search needs) (search needs)
+    slice-aggregate-run-end (λ c κs. search needs) (search needs) (search needs) returns-3 (search needs) (search needs)
     returns-4)
