@@ -1,6 +1,4 @@
 -- The laws of the definitions, which the proofs of this crate and of those above cite.
-pub mod Slots
-pub mod ByKey
 pub mod Order
 pub mod Pairs
 pub mod Operations

@@ -55,12 +55,14 @@ module _ (f : ℕ → Bool) where
       at false h = rw (and-false, ne-eqb (suc (countBelow n (λ k. not (f k)))) 0 (λ e. omega arith))
 
 -- what each single change keeps, all of them keep
-pub eachBelow-keeps : {A : Type 0} (P : A → Type 0) (n : ℕ) (f : ℕ → A → A) (x : A) → P x → ((k : ℕ) (y : A) → P y → P (f k y)) → P (eachBelow n f x)
+pub eachBelow-keeps : {A : Type 0} (P : A → Type 0) (n : ℕ) (f : ℕ → A → A) (x : A) → P x
+    → ((k : ℕ) (y : A) → P y → P (f k y)) → P (eachBelow n f x)
 eachBelow-keeps P zero f x h keep = h
 eachBelow-keeps P (suc n) f x h keep = keep n (eachBelow n f x) (eachBelow-keeps P n f x h keep)
 
 -- what the change for one number makes, and every change keeps, all of them make
-pub eachBelow-makes : {A : Type 0} (P : A → Type 0) (n : ℕ) (f : ℕ → A → A) (x : A) (k : ℕ) → k < n → ((y : A) → P (f k y)) → ((j : ℕ) (y : A) → P y → P (f j y)) → P (eachBelow n f x)
+pub eachBelow-makes : {A : Type 0} (P : A → Type 0) (n : ℕ) (f : ℕ → A → A) (x : A) (k : ℕ) → k < n
+    → ((y : A) → P (f k y)) → ((j : ℕ) (y : A) → P y → P (f j y)) → P (eachBelow n f x)
 eachBelow-makes P zero f x k b make keep = absurd (not-suc-le-zero b)
 eachBelow-makes P (suc n) f x k b make keep = at (ℕ-discrete n k) (λ c. eachBelow-makes P n f x k c make keep)
   where

@@ -2,11 +2,13 @@
 -- Assumes nothing.
 use mathlib.Core.Path.{_≡_, refl, _∙_}
 use mathlib.Core.Bool.{Bool, true, false, _&&_, not, and-assoc}
-use mathlib.Core.List.{List, [], _∷_, _++_, map}
+use mathlib.Core.List.{List, [], _∷_, _++_, map, head-eq-of-cons-eq}
 use Prim.Native.Nat.{ℕ, zero, suc, _+_, _<_, _≤_}
+use native.Mathlib.Numerals.{add-one}
 use native.Mathlib.Omega.{arith}
 use borrow.Author.Tests.{not-true}
-use lib.ListN.{length, getD, length-append}
+use lib.ListN.{length, getD, take, drop, length-append, length-take}
+use lib.Seq.{drop-cons, getD-take}
 use Rattle.base.specs.Lists.{select, tally, without, changeFirst, changeEach, every}
 use Rattle.base.specs.Laws.Tests.{by-test, both-left, both-right}
 
@@ -83,10 +85,9 @@ module _ {A : Type 0} where
   every-at p (x ∷ l) zero d all inside = both-left (p x) _ all
   every-at p (x ∷ l) (suc i) d all inside = every-at p l i d (both-right (p x) _ all) (omega arith)
 
-  -- Where all pass, all are selected.
-  pub select-all : (p : A → Bool) (l : List A) → every p l ≡ true → select p l ≡ l
-  select-all p [] all = refl
-  select-all p (x ∷ l) all = simp (both-left (p x) _ all, select-all p l (both-right (p x) _ all))
+  -- What is left from an index of the first n elements is the one there and what is left from the next.
+  pub read-slot : (n : ℕ) (l : List A) (i : ℕ) (d : A) → i < length (take n l) → drop i (take n l) ≡ getD l i d ∷ drop (i + 1) (take n l)
+  read-slot n l i d held = rw (add-one, drop-cons (take n l) i d, getD-take n l i d (omega (arith, length-take n l)))
 
   -- Where none passes, none is selected.
   pub select-none : (p : A → Bool) (l : List A) → every (λ x. not (p x)) l ≡ true → select p l ≡ []
@@ -136,10 +137,27 @@ module _ {A : Type 0} where
   without-head q (y ∷ l) x xs heads =
       by-test (q y) (λ e. let h = rw e at heads in rw e (cc)) (λ e. simp (e, without-head q l x xs (rw e at heads)))
 
-  -- Where none passes, none is left out.
-  pub without-none : (q : A → Bool) (l : List A) → select q l ≡ [] → without q l ≡ l
-  without-none q [] none = refl
-  without-none q (x ∷ l) none = by-test (q x) (λ e. cc (rw e at none)) (λ e. simp (e, without-none q l (rw e at none)))
+  -- A narrower test that the first to pass also passes leaves out the same element.
+  pub without-narrower : (p q : A → Bool) (l : List A) (x : A) (rest : List A) → select p l ≡ x ∷ rest → q x ≡ true
+      → without (λ y. p y && q y) l ≡ without p l
+  without-narrower p q [] x rest first passes = refl
+  without-narrower p q (y ∷ l) x rest first passes =
+      by-test (p y)
+      (λ e. let same : y ≡ x = head-eq-of-cons-eq (rw e at first) in rw (e, same, passes))
+      (λ e. simp (e, without-narrower p q l x rest (rw e at first) passes))
+
+  -- Behind elements of which none passes, the first that does is left out.
+  pub without-at : (q : A → Bool) (l : List A) (x : A) (m : List A) → select q l ≡ [] → q x ≡ true → without q (l ++ x ∷ m) ≡ l ++ m
+  without-at q [] x m none passes = rw passes
+  without-at q (y ∷ l) x m none passes =
+      by-test (q y) (λ e. cc (rw e at none)) (λ e. simp (e, without-at q l x m (rw e at none) passes))
+
+  -- Behind elements of which none passes, the first that does is changed.
+  pub changeFirst-at : (q : A → Bool) (f : A → A) (l : List A) (x : A) (m : List A) → select q l ≡ [] → q x ≡ true
+      → changeFirst q f (l ++ x ∷ m) ≡ l ++ f x ∷ m
+  changeFirst-at q f [] x m none passes = rw passes
+  changeFirst-at q f (y ∷ l) x m none passes =
+      by-test (q y) (λ e. cc (rw e at none)) (λ e. simp (e, changeFirst-at q f l x m (rw e at none) passes))
 
   -- Where something passes, the list without the first that does is one shorter.
   pub length-without : (q : A → Bool) (l : List A) → 0 < tally q l → suc (length (without q l)) ≡ length l
@@ -172,13 +190,6 @@ module _ {A : Type 0} where
       → (x : A) → g (changeEach q f x) ≡ g x
   changeEach-keeps g q f kept x = by-test (q x) (λ e. simp (e, kept x)) (λ e. simp e)
 
-  -- What a change keeps of each element, it keeps of all that pass a test that does not see it.
-  pub map-keeps : {B : Type 0} (g : A → B) (p : A → Bool) (f : A → A) → ((x : A) → p (f x) ≡ p x) → ((x : A) → g (f x) ≡ g x)
-      → (l : List A) → map g (select p (map f l)) ≡ map g (select p l)
-  map-keeps g p f kept same [] = refl
-  map-keeps g p f kept same (x ∷ l) =
-      by-test (p x) (λ e. simp (kept x, e, same x, map-keeps g p f kept same l)) (λ e. simp (kept x, e, map-keeps g p f kept same l))
-
   -- What a change does to what is read of each element, it does to what is read of all that pass a test that does not see it.
   pub map-follows : {B : Type 0} (g : A → B) (h : B → B) (p : A → Bool) (f : A → A) → ((x : A) → p (f x) ≡ p x)
       → ((x : A) → p x ≡ true → g (f x) ≡ h (g x))
@@ -188,17 +199,6 @@ module _ {A : Type 0} where
       by-test (p x)
       (λ e. simp (kept x, e, follows x e, map-follows g h p f kept follows l))
       (λ e. simp (kept x, e, map-follows g h p f kept follows l))
-
-  -- What a change keeps of each element, a change of the first that passes keeps of all that pass a test that does not see it.
-  pub changeFirst-keeps : {B : Type 0} (g : A → B) (p q : A → Bool) (f : A → A) → ((x : A) → p (f x) ≡ p x) → ((x : A) → g (f x) ≡ g x)
-      → (l : List A) → map g (select p (changeFirst q f l)) ≡ map g (select p l)
-  changeFirst-keeps g p q f kept same [] = refl
-  changeFirst-keeps g p q f kept same (x ∷ l) =
-      by-test (q x)
-      (λ e. by-test (p x) (λ h. simp (e, kept x, h, same x)) (λ h. simp (e, kept x, h)))
-      (λ e. by-test (p x)
-      (λ h. simp (e, h, changeFirst-keeps g p q f kept same l))
-      (λ h. simp (e, h, changeFirst-keeps g p q f kept same l)))
 
   -- Where q is the narrower test, the first that passes it is changed in what passes p.
   pub changeFirst-same : (p q : A → Bool) (f : A → A) → ((x : A) → p (f x) ≡ p x) → ((x : A) → q x ≡ true → p x ≡ true)
@@ -220,17 +220,6 @@ module _ {A : Type 0} where
       simp (e, not-true (q x) (both-left _ _ h), changeFirst-none p q f kept l (both-right (not (q x)) _ h)))
       (λ e. by-test (q x) (λ h. simp (h, kept x, e)) (λ h. simp (h, e, changeFirst-none p q f kept l (rw e at none))))
 
-  -- Changing each that passes q leaves alone what passes p, where none of that passes q.
-  pub changeEach-none : (p q : A → Bool) (f : A → A) → ((x : A) → p (f x) ≡ p x)
-      → (l : List A) → every (λ x. not (q x)) (select p l) ≡ true → select p (map (changeEach q f) l) ≡ select p l
-  changeEach-none p q f kept [] none = refl
-  changeEach-none p q f kept (x ∷ l) none =
-      by-test (p x)
-      (λ e.
-      let h = rw e at none in
-      simp (changeEach-keeps p q f kept x, e, not-true (q x) (both-left _ _ h), changeEach-none p q f kept l (both-right (not (q x)) _ h)))
-      (λ e. simp (changeEach-keeps p q f kept x, e, changeEach-none p q f kept l (rw e at none)))
-
   -- Where nothing passes both, none of what passes p passes q.
   pub none-of-other : (p q : A → Bool) → ((x : A) → q x ≡ true → p x ≡ false) → (l : List A) → every (λ x. not (q x)) (select p l) ≡ true
   none-of-other p q apart l =
@@ -240,8 +229,3 @@ module _ {A : Type 0} where
   pub changeFirst-other : (p q : A → Bool) (f : A → A) → ((x : A) → p (f x) ≡ p x) → ((x : A) → q x ≡ true → p x ≡ false)
       → (l : List A) → select p (changeFirst q f l) ≡ select p l
   changeFirst-other p q f kept apart l = changeFirst-none p q f kept l (none-of-other p q apart l)
-
-  -- Changing each that passes q leaves alone what passes p, where nothing passes both.
-  pub changeEach-other : (p q : A → Bool) (f : A → A) → ((x : A) → p (f x) ≡ p x) → ((x : A) → q x ≡ true → p x ≡ false)
-      → (l : List A) → select p (map (changeEach q f) l) ≡ select p l
-  changeEach-other p q f kept apart l = changeEach-none p q f kept l (none-of-other p q apart l)

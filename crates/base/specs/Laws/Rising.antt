@@ -2,19 +2,59 @@
 -- that never fall. Assumes nothing.
 use mathlib.Core.Path.{_≡_, refl, _∙_}
 use mathlib.Core.Bool.{Bool, true, false, _&&_}
-use mathlib.Core.List.{List, [], _∷_, map}
+use mathlib.Core.List.{List, [], _∷_, _++_, map}
 use Prim.Native.Nat.{ℕ, _≤_}
 use native.Mathlib.Omega.{arith}
 use borrow.Author.Tests.{leb-true, le-leb}
 use lib.Dec.{leb}
 use lib.ListN.{length}
 use Rattle.base.specs.Lists.{select, every, without, changeFirst, neverFalls}
-use Rattle.base.specs.Laws.Lists.{every-map, every-both, every-select, every-selected, every-wider, every-changeFirst}
+use Rattle.base.specs.Laws.Lists.{
+  every-map,
+  every-both,
+  every-select,
+  every-selected,
+  every-wider,
+  every-changeFirst,
+  every-append,
+  every-without,
+}
 use Rattle.base.specs.Laws.Tests.{by-test, both, both-left, both-right}
 
+-- Numbers that never fall, and a number after them that is below none of them, never fall.
+pub neverFalls-append : (l : List ℕ) (x : ℕ) → neverFalls l ≡ true → every (λ y. leb y x) l ≡ true → neverFalls (l ++ x ∷ []) ≡ true
+neverFalls-append [] x sorted below = refl
+neverFalls-append (y ∷ l) x sorted below =
+    let first : every (leb y) (l ++ x ∷ []) ≡ true = rw (every-append, both-left (every (leb y) l) _ sorted, both-left (leb y x) _ below) in
+    both first (neverFalls-append l x (both-right (every (leb y) l) _ sorted) (both-right (leb y x) _ below))
+
+-- A change that keeps the order of the numbers that occur keeps them from falling.
+pub neverFalls-map : (f : ℕ → ℕ) (p : ℕ → Bool) → ((x y : ℕ) → p x ≡ true → p y ≡ true → leb x y ≡ true → leb (f x) (f y) ≡ true)
+    → (l : List ℕ) → every p l ≡ true → neverFalls l ≡ true → neverFalls (map f l) ≡ true
+neverFalls-map f p keeps [] occur sorted = refl
+neverFalls-map f p keeps (x ∷ l) occur sorted =
+    let here = both-left (p x) _ occur in
+    let others = both-right (p x) _ occur in
+    let first = every-both p (leb x) (λ y. leb (f x) (f y)) (λ y h. keeps x y here h) l others (both-left (every (leb x) l) _ sorted) in
+    both {a = every (leb (f x)) (map f l)} (rw every-map first) (neverFalls-map f p keeps l others (both-right (every (leb x) l) _ sorted))
+
 module _ {A : Type 0} where
+  -- Numbers of which one is left out still never fall.
+  pub neverFalls-without : (f : A → ℕ) (q : A → Bool) (l : List A) → neverFalls (map f l) ≡ true → neverFalls (map f (without q l)) ≡ true
+  neverFalls-without f q [] sorted = refl
+  neverFalls-without f q (x ∷ l) sorted =
+      let first : every (λ y. leb (f x) (f y)) l ≡ true = rw every-map at (both-left (every (leb (f x)) (map f l)) _ sorted) in
+      let others = both-right (every (leb (f x)) (map f l)) _ sorted in
+      by-test (q x)
+      (λ e. rw e others)
+      (λ e. rw e
+      (both {a = every (leb (f x)) (map f (without q l))}
+      (rw every-map (every-without (λ y. leb (f x) (f y)) q l first))
+      (neverFalls-without f q l others)))
+
   -- Where every element passes t, every element that passes p passes what follows from both.
-  pub every-chosen : (p t r : A → Bool) → ((x : A) → p x ≡ true → t x ≡ true → r x ≡ true) → (l : List A) → every t l ≡ true → every r (select p l) ≡ true
+  pub every-chosen : (p t r : A → Bool) → ((x : A) → p x ≡ true → t x ≡ true → r x ≡ true) → (l : List A) → every t l ≡ true
+      → every r (select p l) ≡ true
   every-chosen p t r follows l all = every-both p t r follows (select p l) (every-selected p l) (every-select t p l all)
 
   -- The list without the first that passes is no longer than the list.
@@ -37,8 +77,7 @@ module _ {A : Type 0} where
       by-test (q x)
       (λ e.
       let still : every (leb (g (f x))) (map g l) ≡ true =
-      rw every-map (every-wider (from x) (from (f x)) (λ y h. le-leb (g (f x)) (g y) (omega (arith, lower x e, leb-true (g x) (g y) h))) l first)
-      in
+      rw every-map (every-wider (from x) (from (f x)) (λ y h. le-leb (g (f x)) (g y) (omega (arith, lower x e, leb-true))) l first) in
       rw e (both still rest))
       (λ e.
       let after : every (λ y. p y && from x y) (changeFirst q f l) ≡ true =

@@ -1,20 +1,38 @@
--- A list after a store. Assumes nothing.
-use mathlib.Core.List.{List}
-use mathlib.Core.Path.{_≡_, _∙_}
-use Prim.Native.Nat.{ℕ, _<_}
-use native.Mathlib.Decide.{ℕ-discrete}
+-- A list after a store: its length, what is read, and how many pass a test. Assumes nothing.
+use mathlib.Core.Bool.{Bool, cond}
+use mathlib.Core.List.{List, [], _∷_}
+use mathlib.Core.Logic.{_≢_}
+use mathlib.Core.Path.{_≡_}
+use Prim.Native.Nat.{ℕ, zero, suc, _+_, _<_}
 use native.Mathlib.Omega.{arith}
 use lib.ListN.{length, getD, set, length-set}
 use lib.Seq.{getD-set-same, getD-set-other}
+use Rattle.base.specs.Lists.{tally}
+use Rattle.base.specs.Laws.Tests.{by-test, by-equal}
 
--- a list is as long after a store
-pub long-set : {A : Type 0} (n : ℕ) (l : List A) (i : ℕ) (x : A) → length l ≡ n → length (set l i x) ≡ n
-long-set n l i x e = rw length-set e
+module _ {A : Type 0} where
+  -- a list is as long after a store
+  pub long-set : (n : ℕ) (l : List A) (i : ℕ) (x : A) → length l ≡ n → length (set l i x) ≡ n
+  long-set n l i x e = rw length-set e
 
--- where the stored already stands, it stands after another store of it
-pub store-again : {A : Type 0} (l : List A) (i j : ℕ) (x d : A) → j < length l → getD l j d ≡ x → getD (set l i x) j d ≡ x
-store-again l i j x d b h = at (ℕ-discrete j i)
-  where
-    at : Dec (j ≡ i) → getD (set l i x) j d ≡ x
-    at (yes e) = rw e (getD-set-same l i x d (omega arith))
-    at (no n) = getD-set-other l i j x d n ∙ h
+  -- what is read after a store is what was stored, or what stood there
+  pub read-set : (l : List A) (i : ℕ) (x d : A) → i < length l → (P : A → Type 0) (j : ℕ)
+      → (j ≡ i → P x) → (j ≢ i → P (getD l j d)) → P (getD (set l i x) j d)
+  read-set l i x d inside P j same other =
+      by-equal j i (λ e. rw (e, getD-set-same l i x d inside) (same e)) (λ ne. rw (getD-set-other l i j x d ne) (other ne))
+
+  -- where the stored already stands, it stands after another store of it
+  pub store-again : (l : List A) (i j : ℕ) (x d : A) → j < length l → getD l j d ≡ x → getD (set l i x) j d ≡ x
+  store-again l i j x d b h =
+      by-equal j i (λ e. rw e (getD-set-same l i x d (omega arith))) (λ ne. rw (getD-set-other l i j x d ne) h)
+
+  -- a store changes how many pass a test by what it stores and what stood there
+  pub tally-set : (q : A → Bool) (l : List A) (i : ℕ) (x d : A) → i < length l
+      → tally q (set l i x) + cond (q (getD l i d)) 1 0 ≡ tally q l + cond (q x) 1 0
+  tally-set q [] i x d inside = absurd (omega arith)
+  tally-set q (y ∷ l) zero x d inside =
+      by-test (q y)
+      (λ e. by-test (q x) (λ h. rw (e, h)) (λ h. rw (e, h) (omega arith)))
+      (λ e. by-test (q x) (λ h. rw (e, h) (omega arith)) (λ h. rw (e, h)))
+  tally-set q (y ∷ l) (suc i) x d inside =
+      let rest = tally-set q l i x d (omega arith) in by-test (q y) (λ e. rw e (omega arith)) (λ e. rw e rest)

@@ -1,14 +1,26 @@
--- Booleans: proofs by the answers of a test, disjunctions, conjunctions and chains of them, and when two tests are the same.
+-- Booleans: proofs by the answers of a test or by the order of two numbers, disjunctions, conjunctions and chains of them, and when two
+-- tests are the same.
 -- Assumes nothing.
 use mathlib.Core.Path.{_≡_, refl, sym, _∙_}
 use mathlib.Core.Bool.{Bool, true, false, cond, _&&_, _||_, and-false, true≢false}
 use mathlib.Core.List.{List, [], _∷_}
-use lib.Dec.{T}
+use mathlib.Core.Logic.{_≢_}
+use Prim.Native.Nat.{ℕ, _<_, _≤_}
+use borrow.Author.Tests.{eqb-true, eqb-false, ltb-true, ltb-false}
+use lib.Dec.{T, eqb, ltb}
 
 -- What holds by either answer of a test holds.
 pub by-test {ℓ} : {P : Type ℓ} (b : Bool) → (b ≡ true → P) → (b ≡ false → P) → P
 by-test true passes fails = passes refl
 by-test false passes fails = fails refl
+
+-- What holds of two numbers that are the same, and of two that are not, holds.
+pub by-equal {ℓ} : {P : Type ℓ} (a b : ℕ) → (a ≡ b → P) → (a ≢ b → P) → P
+by-equal a b same other = by-test (eqb a b) (λ e. same (eqb-true a b e)) (λ e. other (eqb-false a b e))
+
+-- What holds of a number below another, and of one that is not, holds.
+pub by-less {ℓ} : {P : Type ℓ} (a b : ℕ) → (a < b → P) → (b ≤ a → P) → P
+by-less a b below above = by-test (ltb a b) (λ e. below (ltb-true a b e)) (λ e. above (ltb-false a b e))
 
 -- Two tests that pass, pass together.
 pub both : {a b : Bool} → a ≡ true → b ≡ true → (a && b) ≡ true

@@ -29,7 +29,7 @@ use Rattle.base.specs.Laws.Lists.{
   changeFirst-same,
   changeFirst-other,
 }
-use Rattle.transit.specs.Laws.Order.{place-below-four, neverFalls-append, neverFalls-map, neverFalls-without}
+use Rattle.transit.specs.Laws.Order.{place-below-four}
 use Rattle.transit.specs.Laws.Operations.{appends, relabels, relabels-first, removes}
 use Rattle.transit.specs.Laws.Pairs.{places, append-length, append-places, append-keeps-places, firstTo-length}
 use Rattle.base.specs.Laws.Tests.{by-test, both, both-left, both-right, or-right}
@@ -43,7 +43,8 @@ use Rattle.transit.specs.declared.Selection.the-variants.{ToAt, Between, Betwee
 use Rattle.broker.specs.Checks.{refusal}
 use Rattle.broker.specs.Connect.{call, connectBoth, withdraw, route, onChannel, part}
 use Rattle.broker.specs.Laws.Accepted.{running-not-migrating, Two, SendFits, send-fits, move-fits, land-fits}
-use Rattle.base.specs.Laws.Rising.{every-chosen, without-shorter, neverFalls-changeFirst}
+use Rattle.broker.specs.Laws.Checks.{Passes}
+use Rattle.base.specs.Laws.Rising.{every-chosen, without-shorter, neverFalls-changeFirst, neverFalls-append, neverFalls-map, neverFalls-without}
 use Rattle.broker.specs.Laws.Sound.{AtPairs, Facts, isNamed, fitsUnheeded, fitsPlace}
 use Rattle.broker.specs.Laws.State.{sameRank-eq}
 use Rattle.broker.specs.Life.{start, end}

@@ -10,7 +10,7 @@ use borrow.Author.Needs.{needs}
 use borrow.Author.Tests.{not-true, not-false, le-leb, lt-leb}
 use lib.ListN.{length, drop, replicate, getD, set, length-set, drop-of-length-le}
 use Rattle.transit.specs.Laws.Order.{place-below-four}
-use Rattle.transit.specs.Laws.Slots.{read-slot}
+use Rattle.base.specs.Laws.Lists.{read-slot}
 use Rattle.base.specs.Laws.Tests.{both, fails-left, fails-right}
 use Rattle.transit.specs.Message.{number, ranks, cells}
 use Rattle.transit.specs.Unread.{unreadOf}
