@@ -1,5 +1,5 @@
--- `transit::load::unload_into` meets its contract. The loop's invariant: what the slots before `i` hold stands in the first `n` of the value.
--- Assumes nothing.
+-- `transit::load::unload_into` meets its contract. The loop's invariant: what the slots before `i` hold stands in the first `n` of the
+-- value. Assumes nothing.
 use mathlib.Core.Logic.{⊎-elim}
 use mathlib.Core.Path.{_≡_, refl, ap, _∙_}
 use Prim.Native.Nat.{_≤_, _<_, _-_, _+_}
@@ -22,16 +22,14 @@ abbrev Inv-loop : tie.InvT-loop
 Inv-loop slots contents value₀ end n₀ i₀ value n i =
     let c = columnsOf slots in
     let l = held (messageAt (c .places) contents) 0 (take i (c .pairs)) in
-    (i ≤ end) × (length (value .messages) ≡ 1024) × (n ≡ length l) × (take n (value .messages) ≡ l)
+    (i ≤ end) × (end ≤ SLOTS) × (length (value .messages) ≡ 1024) × (n ≡ length l) × (take n (value .messages) ≡ l)
 
 abbrev μ-loop : tie.MeasureT-loop
 μ-loop slots contents value₀ end n₀ i₀ value n i = end - i
 
 -- The tail is at most the number of slots.
 tail-within : (h : tie.After-end Inv-loop μ-loop) → getD (h .before .args .slots .now) TAIL 0 ≤ SLOTS
-tail-within h =
-    let start = h .before in
-    omega (arith, start .pre .within, tail-is (start .args .slots .now))
+tail-within h = omega (arith, h .before .pre .within, tail-is (h .before .args .slots .now))
 
 -- At a live slot the value has room.
 room : (h : tie.At-loop Inv-loop μ-loop) → let s = h .before .before .args .slots .now in
@@ -40,80 +38,49 @@ unfolding messagesIn
 room h before live =
     let start = h .before .before in
     let s = start .args .slots .now in
-    let v = start .args .contents .now in
     let i = h .loop .i in
     let c = columnsOf s in
-    let f = messageAt (c .places) v in
+    let f = messageAt (c .places) (start .args .contents .now) in
     let inside : i < SLOTS = omega (arith, tail-within (h .before)) in
     let z = column-sizes s (start .pre .slots-long) in
     let more = held-live f (c .pairs) i (omega (arith, z .pairs-long)) (omega (arith, pair-at s i inside)) in
-    omega (arith, simp length-append at (ap length more), held-part f (c .pairs) (i + 1), start .pre .few, h .loop .inv .2)
+    omega (arith, simp length-append at (ap length more), held-part f (c .pairs) (i + 1), start .pre .few, h .loop .inv .3)
 
-cast-end : tie.Need-cast-end Inv-loop μ-loop
-cast-end c = omega (arith, tail-within c)
-
-loop-holds : tie.Need-loop-holds Inv-loop μ-loop
-loop-holds c = (omega arith, slots (c .before .args .t) _ (c .before .good .0), refl, refl)
-
-mul-pair : tie.Need-mul-pair Inv-loop μ-loop
-mul-pair c = omega (arith, tail-within (c .before .before))
-
-element-copy-out-pair : tie.Need-element-copy-out-pair Inv-loop μ-loop
-element-copy-out-pair c = omega (arith, tail-within (c .before .before))
-
-add-message-of : tie.Need-add-message-of Inv-loop μ-loop
-add-message-of c = omega (arith, tail-within (c .before .before .before .before))
-
-mul-message-of : tie.Need-mul-message-of Inv-loop μ-loop
-mul-message-of c = omega (arith, tail-within (c .before .before .before .before))
-
-element-copy-out-message-of : tie.Need-element-copy-out-message-of Inv-loop μ-loop
-element-copy-out-message-of c = omega (arith, tail-within (c .before .before .before .before))
-
-mul-message-of-2 : tie.Need-mul-message-of-2 Inv-loop μ-loop
-mul-message-of-2 c = omega (arith, tail-within (c .before .before .before .before .before))
-
-element-copy-out-message-of-2 : tie.Need-element-copy-out-message-of-2 Inv-loop μ-loop
-element-copy-out-message-of-2 c = omega (arith, tail-within (c .before .before .before .before .before))
-
-mul-m : tie.Need-mul-m Inv-loop μ-loop
-mul-m c = omega (arith, room (c .before .before .before .before .before .before) (omega arith) (omega arith))
-
-element-set-from-m : tie.Need-element-set-from-m Inv-loop μ-loop
-element-set-from-m c = omega (arith, room (c .before .before .before .before .before .before) (omega arith) (omega arith))
-
-add-n : tie.Need-add-n Inv-loop μ-loop
-add-n c = omega (arith, room (c .before .before .before .before .before .before) (omega arith) (omega arith))
-
-add-i : tie.Need-add-i Inv-loop μ-loop
-add-i c = omega (arith, tail-within (c .before .before .before .before))
+-- So it has room for the message.
+message-room : tie.Need-mul-m Inv-loop μ-loop × tie.Need-element-set-from-m Inv-loop μ-loop × tie.Need-add-n Inv-loop μ-loop
+message-room = ((λ c. omega (arith, inside c)), (λ c. omega (arith, inside c)), λ c. omega (arith, inside c))
+  where
+    inside : (c : tie.After-message-of Inv-loop μ-loop) → let loop = c .before .before .before .before .before .before in loop .loop .n < 1024
+    inside c =
+        let loop = c .before .before .before .before .before .before in
+        room loop (omega arith) (omega arith)
 
 loop-again : tie.Need-loop-again Inv-loop μ-loop
 loop-again c =
     let head = c .before .before .before in
     let start = head .before .before in
     let s = start .args .slots .now in
-    let v = start .args .contents .now in
     let i = head .loop .i in
     let cols = columnsOf s in
-    let f = messageAt (cols .places) v in
+    let f = messageAt (cols .places) (start .args .contents .now) in
     let inv = head .loop .inv in
     let t = head .loop .value in
     let n = head .loop .n in
-    let inside : i < SLOTS = omega (arith, tail-within (head .before)) in
+    let inside : i < SLOTS = omega (arith, inv .1) in
     let fits : i < length (cols .pairs) = omega (arith, column-sizes s (start .pre .slots-long) .pairs-long) in
     let pair = pair-at s i inside in
     ⊎-elim
     (λ w.
     let more = held-live f (cols .pairs) i fits (omega (arith, pair, w .0 .taken)) in
-    let fits-t : n < length (t .messages) = omega (arith, room head (omega arith) (w .0 .taken), inv .1) in
+    let fits-t : n < length (t .messages) = omega (arith, room head (omega arith) (w .0 .taken), inv .2) in
     rw (w .4, w .5, w .3 .ensures, more) (
       omega arith,
-      length-set (t .messages) n _ ∙ inv .1,
-      simp length-append (omega (arith, inv .2)),
-      rw (add-one, take-suc-set (t .messages) n, inv .3, pair, place-at s i inside),
+      inv .1,
+      length-set (t .messages) n _ ∙ inv .2,
+      simp length-append (omega (arith, inv .3)),
+      rw (add-one, take-suc-set (t .messages) n, inv .4, pair, place-at s i inside),
     ))
-    (λ w. rw (w .1, w .2, held-gone f (cols .pairs) i fits (omega (arith, pair, w .0 .left))) (omega arith, inv .1, inv .2, inv .3))
+    (λ w. rw (w .1, w .2, held-gone f (cols .pairs) i fits (omega (arith, pair, w .0 .left))) (omega arith, inv .1, inv .2, inv .3, inv .4))
     (c .if1 .came)
 
 returns : tie.Need-returns Inv-loop μ-loop
@@ -127,12 +94,11 @@ returns c =
     let f = messageAt (cols .places) (start .args .contents .now) in
     let end : here .i ≡ cols .tail = omega (arith, tail-is s) in
     let all = held-all f (cols .pairs) (cols .tail) (column-sizes s (d .slots-long) .pairs-long) (d .index .dead) in
-    let list = rw (end, all) at (here .inv .3) in
-    let size = rw (end, all) at (here .inv .2) in
-    rw (list, size)
+    rw (rw (end, all) at (here .inv .4), rw (end, all) at (here .inv .3))
 
 pub unload-into-spec : {M : Type 1} → statement M
 unload-into-spec =
-    tie.close (tie.spec Inv-loop μ-loop (search needs) cast-end loop-holds mul-pair element-copy-out-pair add-message-of
-    mul-message-of element-copy-out-message-of mul-message-of-2 element-copy-out-message-of-2 (search needs) mul-m
-    element-set-from-m add-n add-i (search needs) loop-again returns)
+    tie.close (tie.spec Inv-loop μ-loop (search needs) (λ c. omega (arith, tail-within c))
+    (λ c. (omega arith, tail-within c, slots (c .before .args .t) _ (c .before .good .0), refl, refl))
+    (search needs) (search needs) (search needs) (search needs) (search needs) (search needs) (search needs) (search needs)
+    (message-room .0) (message-room .1) (message-room .2) (search needs) (search needs) loop-again returns)
