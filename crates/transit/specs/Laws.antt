@@ -9,6 +9,7 @@ pub mod Links
 pub mod Put
 pub mod Take
 pub mod Messages
+pub mod Earliest
 pub mod Left
 pub mod Mail
 pub mod Places

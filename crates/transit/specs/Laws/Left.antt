@@ -1,15 +1,17 @@
 -- The first message of a pair leaves: four stores in the slots.
 -- Assumes nothing.
 use mathlib.Core.List.{List}
-use mathlib.Core.Path.{_≡_, ap}
+use mathlib.Core.Path.{_≡_, ap, sym, _∙_}
 use Prim.Native.Nat.{ℕ, _+_, _-_, _<_, _≤_}
 use native.Mathlib.Omega.{arith}
+use borrow.Author.Tests.{eq-eqb, ne-eqb}
 use lib.ListN.{length, getD, set, length-set}
 use Rattle.transit.specs.Columns.{columnsOf, NEXT, FIRST, COUNT, UNREAD, SLOTS, DEAD}
 use Rattle.base.specs.Lists.{tally, without}
 use Rattle.transit.specs.Mail.{messagesIn, Mail, Left}
 use Rattle.transit.specs.Message.{between, ranks, cells}
 use Rattle.transit.specs.Slots.{pairOf}
+use Rattle.transit.specs.Unread.{valueIn}
 use Rattle.transit.specs.declared.Rank.{Rank}
 use Rattle.transit.specs.Laws.Columns.{
   column-sizes,
@@ -22,10 +24,12 @@ use Rattle.transit.specs.Laws.Columns.{
   count-at,
   unread-is,
 }
-use Rattle.transit.specs.Laws.Links.{read-by, first-some}
+use Rattle.transit.specs.Laws.Earliest.{Earliest, earliest-found, earliest-without}
+use Rattle.transit.specs.Laws.Links.{first-some}
 use Rattle.base.specs.Laws.Lists.{tally-bounded, length-without, tally-without}
+use Rattle.base.specs.Laws.Stores.{read-set}
 use Rattle.transit.specs.Laws.Mail.{count-in}
-use Rattle.transit.specs.Laws.Messages.{pair-small, take-messages, take-found}
+use Rattle.transit.specs.Laws.Messages.{pair-small, between-pair}
 use Rattle.transit.specs.Laws.Take.{front, taken, take-index}
 
 -- the slots after the four stores, for the pair of a number
@@ -47,20 +51,26 @@ module _ {s v : List ℕ} (a b : Rank) (d : Mail s v) (small-a : a .0 < ranks) (
   -- The pair has a first slot.
   first-inside : front (columnsOf s) (pairOf a b) < SLOTS
   first-inside =
-      first-some (d .index) (column-sizes s (d .slots-long)) (pairOf a b) small
-      (omega (arith, count-is, count-at s (pairOf a b) small))
+      first-some (d .index) (column-sizes s (d .slots-long)) (pairOf a b) small (omega (arith, count-is, count-at s (pairOf a b) small))
 
-  -- The pair's first slot is one.
-  pub at-inside : getD s (FIRST + pairOf a b) 0 < SLOTS
-  at-inside = omega (arith, first-at s (pairOf a b) small, first-inside)
+  -- The pair's first slot is one, and the pair's count and the number of unread are at least 1.
+  pub reads-inside : (getD s (FIRST + pairOf a b) 0 < SLOTS) × (1 ≤ getD s (COUNT + pairOf a b) 0) × (1 ≤ getD s UNREAD 0)
+  reads-inside = (
+    omega (arith, first-at s (pairOf a b) small, first-inside),
+    omega (arith, count-is, some),
+    omega (arith, unread-is s, d .stored, tally-bounded (between a b) (messagesIn s v), some),
+  )
 
-  -- The pair has one at least.
-  pub count-some : 1 ≤ getD s (COUNT + pairOf a b) 0
-  count-some = omega (arith, count-is, some)
-
-  -- One at least is unread in all.
-  pub unread-some : 1 ≤ getD s UNREAD 0
-  unread-some = omega (arith, unread-is s, d .stored, tally-bounded (between a b) (messagesIn s v), some)
+  -- It holds the pair's first message.
+  first-earliest : Earliest s v (between a b) (front (columnsOf s) (pairOf a b))
+  first-earliest =
+      let f = d .index .firsts (pairOf a b) small in
+      record {
+        live = λ inside. omega (arith, f .here inside, small);
+        passes = λ inside.
+            between-pair a b small-a small-b _ (omega (arith, f .here inside, small)) ∙ eq-eqb _ (pairOf a b) (f .here inside);
+        others = λ k h _ live. between-pair a b small-a small-b _ live ∙ ne-eqb _ (pairOf a b) (f .apart k (omega arith) h);
+      }
 
   -- The columns after the four stores.
   columns-left : columnsOf (without-first s (pairOf a b)) ≡ taken (columnsOf s) (pairOf a b)
@@ -74,9 +84,9 @@ module _ {s v : List ℕ} (a b : Rank) (d : Mail s v) (small-a : a .0 < ranks) (
         store-unread s3 (getD s UNREAD 0 - 1) (simp length-set (d .slots-long)),
         store-count s2 p (getD s (COUNT + p) 0 - 1) small,
         store-first s1 p (getD s (NEXT + at) 0) small,
-        store-pair s at DEAD at-inside,
+        store-pair s at DEAD (reads-inside .0),
         first-at s p small,
-        next-at s at at-inside,
+        next-at s at (reads-inside .0),
         count-at s p small,
         unread-is s,
       )
@@ -84,8 +94,7 @@ module _ {s v : List ℕ} (a b : Rank) (d : Mail s v) (small-a : a .0 < ranks) (
   -- The pair's first message is no longer there.
   same-left : messagesIn (without-first s (pairOf a b)) v ≡ without (between a b) (messagesIn s v)
   unfolding messagesIn
-  same-left =
-      rw columns-left (take-messages a b small-a small-b (d .index) v (column-sizes s (d .slots-long)) first-inside)
+  same-left = rw columns-left (earliest-without d first-earliest first-inside)
 
   -- The arrays hold what they must.
   kept-left : Mail (without-first s (pairOf a b)) v
@@ -101,8 +110,8 @@ module _ {s v : List ℕ} (a b : Rank) (d : Mail s v) (small-a : a .0 < ranks) (
         index = rw columns-left (take-index (d .index) z p small first-inside);
         placed = λ k h live.
             rw columns-left (d .placed k h
-            (read-by (c .pairs) (front c p) DEAD (omega (arith, z .pairs-long, first-inside)) (λ q. q < cells → getD (c .pairs) k 0 < cells) k
-            (λ _ l. absurd (omega arith)) (λ _ l. l) (rw columns-left at live)));
+            (read-set (c .pairs) (front c p) DEAD 0 (omega (arith, z .pairs-long, first-inside))
+            (λ q. q < cells → getD (c .pairs) k 0 < cells) k (λ _ l. absurd (omega arith)) (λ _ l. l) (rw columns-left at live)));
         within = rw columns-left (d .within);
         stored = rw columns-left (omega (arith, d .stored));
         few = omega (arith, d .few);
@@ -110,15 +119,12 @@ module _ {s v : List ℕ} (a b : Rank) (d : Mail s v) (small-a : a .0 < ranks) (
 
   -- What has left.
   pub has-left : Left a b s v (getD v (getD s (FIRST + pairOf a b) 0) 0) (getD s (COUNT + pairOf a b) 0 - 1) (without-first s (pairOf a b))
-  unfolding messagesIn
   has-left =
-      let p = pairOf a b in
-      let z = column-sizes s (d .slots-long) in
-      let found = take-found a b small-a small-b (d .index) v z first-inside in
+      let found = ap valueIn (earliest-found d first-earliest first-inside) in
       let fewer = tally-without (between a b) (between a b) (λ x e. e) (messagesIn s v) some in
       record {
         kept = kept-left;
         same = same-left;
-        found = rw (found .1, first-at s p small);
+        found = sym (rw (first-at s (pairOf a b) small) at found);
         pair = rw same-left (omega (arith, count-is));
       }

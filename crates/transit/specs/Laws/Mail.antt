@@ -1,4 +1,4 @@
--- What the layers above may know of the messages in the lent arrays: their ranks, and what the stored numbers count.
+-- The messages in the lent arrays: their ranks, what the stored numbers count, and that a change of places alone keeps the arrays in order.
 -- Assumes nothing.
 use mathlib.Core.Bool.{Bool, true, false, not}
 use mathlib.Core.List.{List, []}
@@ -8,14 +8,15 @@ use native.Mathlib.Omega.{arith}
 use borrow.Author.Tests.{ne-eqb, ltb-true}
 use lib.Dec.{ltb}
 use lib.ListN.{length, getD}
-use Rattle.transit.specs.Columns.{columnsOf, COUNT, UNREAD}
+use Rattle.transit.specs.Columns.{columnsOf, withPlaces, COUNT, UNREAD, SLOTS, slotsLength}
 use Rattle.base.specs.Lists.{select, tally, every}
 use Rattle.transit.specs.Mail.{messagesIn, Mail}
-use Rattle.transit.specs.Message.{sameRank, to, between, ranks}
+use Rattle.transit.specs.Message.{sameRank, to, between, ranks, cells}
 use Rattle.transit.specs.Slots.{pairOf, ranked}
 use Rattle.transit.specs.declared.Message.{Message}
 use Rattle.transit.specs.declared.Rank.{Rank}
 use Rattle.transit.specs.Laws.Columns.{count-at, unread-is}
+use Rattle.transit.specs.Laws.Links.{index-places}
 use Rattle.base.specs.Laws.Lists.{every-wider, select-none}
 use Rattle.transit.specs.Laws.Messages.{held-ranked, pair-small, count-messages}
 use Rattle.base.specs.Laws.Tests.{by-test, both-left, both-right}
@@ -23,7 +24,7 @@ use Rattle.base.specs.Laws.Tests.{by-test, both-left, both-right}
 -- Both ranks of each message are below sixteen.
 pub ranked-in : (s v : List ℕ) → every ranked (messagesIn s v) ≡ true
 unfolding messagesIn
-ranked-in s v = held-ranked (columnsOf s .places) v 0 (columnsOf s .pairs)
+ranked-in s v = held-ranked (columnsOf s .places) v (columnsOf s .pairs)
 
 -- The number stored is how many messages are unread.
 pub unread-in : {s v : List ℕ} → Mail s v → getD s UNREAD 0 ≡ length (messagesIn s v)
@@ -60,3 +61,17 @@ between-past-sender a b m past h = rw (sender-past a m past h)
 pub between-past-receiver : (a b : Rank) (m : Message) → ranks ≤ b .0 → ranked m ≡ true → between a b m ≡ false
 between-past-receiver a b m past h =
     by-test (sameRank (m .sender) a) (λ e. rw (e, receiver-past b m past h)) (λ e. rw e)
+
+-- Where the places alone change, to places, and as many messages are unread, the arrays hold what they must.
+pub mail-places : {s v s' l : List ℕ} → Mail s v → length s' ≡ slotsLength → columnsOf s' ≡ withPlaces (columnsOf s) l
+    → ((k : ℕ) → k < SLOTS → getD (columnsOf s .pairs) k 0 < cells → getD l k 0 < 4)
+    → length (messagesIn s' v) ≡ length (messagesIn s v) → Mail s' v
+mail-places {l = l} d long changed placed same = record {
+  slots-long = long;
+  contents-long = d .contents-long;
+  index = rw changed (index-places l (d .index));
+  placed = λ k h live. rw changed (placed k h (rw changed at live));
+  within = rw changed (d .within);
+  stored = rw changed (d .stored ∙ sym same);
+  few = omega (arith, d .few);
+}

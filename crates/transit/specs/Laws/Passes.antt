@@ -22,7 +22,7 @@ use Rattle.transit.specs.declared.Selection.{Selection}
 use Rattle.transit.specs.declared.pick.Pick.{Pick}
 use Rattle.transit.specs.Laws.Columns.{column-sizes, store-place, pair-at, place-at}
 use Rattle.transit.specs.Laws.Held.{held-map, held-live, held-gone}
-use Rattle.transit.specs.Laws.Links.{index-places}
+use Rattle.transit.specs.Laws.Mail.{mail-places}
 use Rattle.base.specs.Laws.Lists.{tally-append}
 use Rattle.transit.specs.Laws.Messages.{place-back}
 use Rattle.transit.specs.Laws.Order.{place-below-four}
@@ -128,10 +128,9 @@ module _ {s v : List ℕ} (d : Mail s v) (sel : Selection) (w : Pick) (top : w .
         let c = columnsOf s in
         let f = messageAt (c .places) v in
         let f' = messageAt (columnsOf s' .places) v in
-        rw (g .others) (held-map f f' (changeEach (picks sel) (relabelled to)) 0 (c .pairs) (λ k h live.
-        let z : 0 + k ≡ k = omega arith in
+        rw (g .others) (held-map f f' (changeEach (picks sel) (relabelled to)) (c .pairs) (λ k h live.
         let inside : k < SLOTS = omega (arith, column-sizes s (d .slots-long) .pairs-long) in
-        rw (z, g .done k inside) (by-test (picked w (getD (c .pairs) k 0) (getD (c .places) k 0))
+        rw (g .done k inside) (by-test (picked w (getD (c .pairs) k 0) (getD (c .places) k 0))
         (λ e. rw (here k inside live, e, place-back to))
         (λ e. rw (here k inside live, e)))))
 
@@ -139,20 +138,13 @@ module _ {s v : List ℕ} (d : Mail s v) (sel : Selection) (w : Pick) (top : w .
     pub pass-end : Relabelled sel to s v n s'
     pass-end =
         let c = columnsOf s in
-        let pairs-same : columnsOf s' .pairs ≡ c .pairs = ap (λ (y : Columns). y .pairs) (g .others) in
-        let same-length : length (messagesIn s' v) ≡ length (messagesIn s v) = ap length pass-same ∙ simp length-map in
         record {
-          kept = record {
-            slots-long = g .long;
-            contents-long = d .contents-long;
-            index = rw (g .others) (index-places (columnsOf s' .places) (d .index));
-            placed = λ k h live. rw (g .done k h) (by-test (picked w (getD (c .pairs) k 0) (getD (c .places) k 0))
-                (λ e. rw e (place-below-four to))
-                (λ e. rw e (d .placed k h (rw pairs-same at live))));
-            within = rw (g .others) (d .within);
-            stored = ap (λ (y : Columns). y .unread) (g .others) ∙ d .stored ∙ sym same-length;
-            few = omega (arith, d .few);
-          };
+          kept =
+              mail-places d (g .long) (g .others)
+              (λ k h live. rw (g .done k h) (by-test (picked w (getD (c .pairs) k 0) (getD (c .places) k 0))
+              (λ e. rw e (place-below-four to))
+              (λ e. rw e (d .placed k h live))))
+              (ap length pass-same ∙ simp length-map);
           same = pass-same;
           moved = g .counted ∙ hits-tally;
         }

@@ -4,8 +4,8 @@ use mathlib.Core.Bool.{_&&_}
 use mathlib.Core.Path.{_≡_}
 use Prim.Native.Nat.{ℕ, _+_, _*_, _/_, _<_}
 use native.Mathlib.Omega.{arith}
-use borrow.Author.Tests.{eqb-true, eqb-false, le-leb, lt-ltb, le-ltb, leb-true}
-use lib.Dec.{eqb, leb}
+use borrow.Author.Tests.{eq-eqb, ne-eqb, le-leb, lt-leb, lt-ltb, le-ltb}
+use lib.Dec.{eqb}
 use Rattle.transit.specs.Message.{placeNumber, picks, ranks, cells}
 use Rattle.transit.specs.Pick.{picked}
 use Rattle.transit.specs.Slots.{pairOf, placeOf, messageOf}
@@ -14,18 +14,13 @@ use Rattle.transit.specs.declared.Rank.{Rank}
 use Rattle.transit.specs.declared.Selection.the-variants.{ToAt, BetweenAt}
 use Rattle.transit.specs.declared.pick.Pick.{Pick}
 use Rattle.transit.specs.Laws.Messages.{between-pair}
-use Rattle.base.specs.Laws.Tests.{by-test}
+use Rattle.base.specs.Laws.Tests.{by-equal, by-less}
 
 -- A number below four is that of its place.
 number-back : (n : ℕ) → n < 4 → placeNumber (placeOf n) ≡ n
 number-back n small =
-    by-test (eqb n 0)
-    (λ e. rw (eqb-true n 0 e))
-    (λ e. by-test (eqb n 1)
-    (λ f. rw (eqb-true n 1 f))
-    (λ f. by-test (eqb n 2)
-    (λ g. rw (eqb-true n 2 g))
-    (λ g. rw (e, f, g) (omega (arith, eqb-false n 0 e, eqb-false n 1 f, eqb-false n 2 g)))))
+    by-equal n 0 (λ e. rw e) (λ not-0. by-equal n 1 (λ e. rw e) (λ not-1. by-equal n 2 (λ e. rw e)
+    (λ not-2. rw (ne-eqb n 0 not-0, ne-eqb n 1 not-1, ne-eqb n 2 not-2) (omega (arith, not-0, not-1, not-2)))))
 
 -- the slots of the pair from a to b at a place
 abbrev pub pickBetween : Rank → Rank → Place → Pick
@@ -45,15 +40,12 @@ module _ (p n : ℕ) (small : p < cells) (place-small : n < 4) where
   pub picked-between : (a b : Rank) (place : Place) → a .0 < ranks → b .0 < ranks
       → picks (BetweenAt a b place) (messageOf p n 0) ≡ picked (pickBetween a b place) p n
   picked-between a b place small-a small-b =
-      by-test (eqb (p / ranks) (a .0))
-      (λ e.
-      let same = eqb-true (p / ranks) (a .0) e in
-      rw (e, number-back n place-small, le-leb (ranks * a .0) p (omega arith), lt-ltb p (ranks * a .0 + ranks) (omega arith)))
-      (λ e.
-      let other = eqb-false (p / ranks) (a .0) e in
-      by-test (leb (ranks * a .0) p)
-      (λ f. rw (e, f, le-ltb p (ranks * a .0 + ranks) (omega (arith, leb-true (ranks * a .0) p f, other))))
-      (λ f. rw (e, f)))
+      let low = ranks * a .0 in
+      by-equal (p / ranks) (a .0)
+      (λ e. rw (eq-eqb (p / ranks) (a .0) e, number-back n place-small, le-leb low p (omega arith), lt-ltb p (low + ranks) (omega arith)))
+      (λ ne. by-less p low
+      (λ below. rw (ne-eqb (p / ranks) (a .0) ne, lt-leb low p below))
+      (λ above. rw (ne-eqb (p / ranks) (a .0) ne, le-leb low p above, le-ltb p (low + ranks) (omega (arith, ne)))))
 
   -- A pass over the slots of all pairs to a receiver at a place picks just those messages.
   pub picked-to : (r : Rank) (place : Place) → picks (ToAt r place) (messageOf p n 0) ≡ picked (pickTo r place) p n

@@ -1,59 +1,48 @@
 -- `transit::find::first_to` meets its contract. Assumes nothing.
 use mathlib.Core.Path.{sym, ap}
-use Prim.Native.Nat.{_<_}
 use native.Mathlib.Omega.{arith}
-use Rattle.transit.specs.Columns.{columnsOf, SLOTS}
-use Rattle.transit.specs.Search.{Oldest}
+use Rattle.transit.specs.Message.{picks}
 use Rattle.transit.specs.Unread.{head}
-use Rattle.transit.specs.Laws.Columns.{pair-at, place-at}
+use Rattle.transit.specs.declared.Selection.the-variants.{To}
+use Rattle.transit.specs.Laws.Earliest.{Earliest, earliest-nothing, earliest-live, earliest-found}
 use Rattle.transit.specs.Laws.Mail.{none-in, receiver-past}
-use Rattle.transit.specs.Laws.Oldest.{oldest-nothing, oldest-live, oldest-found}
+use Rattle.transit.specs.Laws.Oldest.{oldest-earliest}
 use borrow.Author.Needs.{needs}
 use Rattle.transit.proofs.find.first_to.Statement.{statement}
 use Rattle.transit.proofs.find.first_to.Tie as tie
-use Rattle.transit.specs.Message.{ranks}
 
--- The slot found is the oldest to the receiver.
-is-oldest : (h : tie.After-wide) → let a = h .before .before .before .before .before .args in
-    Oldest (columnsOf (a .slots .now)) (a .r .0) ranks (h .wide .result)
-is-oldest h = rw (h .wide .ensures) (h .before .oldest .ensures)
+-- The slot found is the first of a message to the receiver.
+is-earliest : (h : tie.After-wide) →
+    let start = h .before .before .before .before .before in
+    Earliest (start .args .slots .now) (start .args .contents .now) (picks (To (start .args .r))) (h .wide .result)
+is-earliest h =
+    let checked = h .before .before .before in
+    let start = checked .before .before in
+    oldest-earliest (start .pre) (start .args .r) (checked .if1 .left) (rw (h .wide .ensures) (h .before .oldest .ensures))
 
 returns : tie.Need-returns
 returns c =
-    let start = c .before .before in
-    let a = start .args in
+    let a = c .before .before .args in
     sym (ap head (none-in (a .slots .now) (a .contents .now) _ (λ m. receiver-past (a .r) m (c .if1 .taken))))
 
 message-of-requires : tie.Need-message-of-requires
 message-of-requires c κs =
     let h = c .before .before .before .before in
     let start = h .before .before .before .before .before in
-    let a = start .args in
-    let small = h .before .before .before .if1 .left in
-    let at = h .wide .result in
-    let inside : at < SLOTS = omega arith in
-    rw (pair-at (a .slots .now) at inside) at (oldest-live (start .pre) (a .r) small (is-oldest h) inside)
+    earliest-live (start .pre) (is-earliest h) (omega arith)
 
 returns-2 : tie.Need-returns-2
 returns-2 c =
     let h = c .before .before .before .before .before in
     let start = h .before .before .before .before .before in
-    let a = start .args in
-    let small = h .before .before .before .if1 .left in
-    let at = h .wide .result in
-    let inside : at < SLOTS = omega arith in
-    let found = oldest-found (start .pre) (a .r) small (is-oldest h) inside in
-    rw (c .message-of .ensures) (sym (rw (pair-at (a .slots .now) at inside, place-at (a .slots .now) at inside) at found))
+    rw (c .message-of .ensures) (sym (earliest-found (start .pre) (is-earliest h) (omega arith)))
 
 returns-3 : tie.Need-returns-3
 returns-3 c =
-    let h = c .before in
-    let start = h .before .before .before .before .before in
-    let a = start .args in
-    let small = h .before .before .before .if1 .left in
-    sym (ap head (oldest-nothing (start .pre) (a .r) small (is-oldest h) (c .if2 .left)))
+    let start = c .before .before .before .before .before .before in
+    sym (ap head (earliest-nothing (start .pre) (is-earliest (c .before)) (c .if2 .left)))
 
 pub first-to-spec : {M : Type 1} → statement M
 first-to-spec =
-    tie.close (tie.spec returns (search needs) (search needs) (search needs) (search needs) (search needs)
-    (search needs) (search needs) (search needs) (search needs) (search needs) message-of-requires returns-2 returns-3)
+    tie.close (tie.spec returns (search needs) (search needs) (search needs) (search needs) (search needs) (search needs)
+    (search needs) (search needs) (search needs) (search needs) message-of-requires returns-2 returns-3)

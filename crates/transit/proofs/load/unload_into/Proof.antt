@@ -93,7 +93,8 @@ returns c =
     let cols = columnsOf s in
     let f = messageAt (cols .places) (start .args .contents .now) in
     let end : here .i ≡ cols .tail = omega (arith, tail-is s) in
-    let all = held-all f (cols .pairs) (cols .tail) (column-sizes s (d .slots-long) .pairs-long) (d .index .dead) in
+    let long = column-sizes s (d .slots-long) .pairs-long in
+    let all = held-all f (cols .pairs) (cols .tail) (λ k past h. d .index .dead k past (omega arith)) in
     rw (rw (end, all) at (here .inv .4), rw (end, all) at (here .inv .3))
 
 pub unload-into-spec : {M : Type 1} → statement M

@@ -23,7 +23,7 @@ returns c =
     let pre = start .pre in
     λ v d.
     rw (h .before .before .number2 .ensures)
-    (first-changed d (a .a) (a .b) (pre .0) (pre .1) (a .from) (is-reached h (d .index)) (c .if1 .taken) (a .to))
+    (first-changed d (a .a) (a .b) (pre .0) (pre .1) (a .from) (is-reached h (d .index)) (a .to) (c .if1 .taken))
 
 returns-2 : tie.Need-returns-2
 returns-2 c =

@@ -3,7 +3,7 @@ use Prim.Native.Nat.{_+_, _<_, _≤_}
 use native.Mathlib.Omega.{arith}
 use lib.ListN.{getD}
 use Rattle.transit.specs.Columns.{FIRST, COUNT, UNREAD, SLOTS}
-use Rattle.transit.specs.Laws.Left.{at-inside, count-some, unread-some, has-left}
+use Rattle.transit.specs.Laws.Left.{reads-inside, has-left}
 use borrow.Author.Needs.{needs}
 use Rattle.transit.proofs.remove.remove.Statement.{statement}
 use Rattle.transit.proofs.remove.remove.Tie as tie
@@ -14,11 +14,7 @@ inside : (h : tie.After-pair-of) → let s = h .before .args .slots .now in let 
 inside h =
     let a = h .before .args in
     let pre = h .before .pre in
-    rw (h .pair-of .ensures) (
-      at-inside (a .a) (a .b) (pre .0) (pre .1 .0) (pre .1 .1 .0) (pre .1 .1 .1),
-      count-some (a .a) (a .b) (pre .0) (pre .1 .0) (pre .1 .1 .0) (pre .1 .1 .1),
-      unread-some (a .a) (a .b) (pre .0) (pre .1 .0) (pre .1 .1 .0) (pre .1 .1 .1),
-    )
+    rw (h .pair-of .ensures) (reads-inside (a .a) (a .b) (pre .0) (pre .1 .0) (pre .1 .1 .0) (pre .1 .1 .1))
 
 -- The pair's count and the number of unread can be one less.
 one-less : tie.Need-sub-left × tie.Need-sub-unread
