@@ -47,12 +47,13 @@ use Rattle.transit.specs.Laws.Columns.{
   tail-is,
   unread-is,
 }
-use Rattle.transit.specs.Laws.Links.{read-by, count-bounded}
+use Rattle.transit.specs.Laws.Links.{count-bounded}
 use Rattle.transit.specs.Laws.Mail.{count-in}
 use Rattle.transit.specs.Laws.Messages.{pair-small, put-messages}
 use Rattle.base.specs.Laws.Lists.{tally-append}
 use Rattle.transit.specs.Laws.Order.{place-below-four}
 use Rattle.transit.specs.Laws.Put.{filled, Joined, joined-first, joined-behind, last-inside, put-index}
+use Rattle.base.specs.Laws.Stores.{read-set}
 use Rattle.base.specs.Laws.Tests.{both}
 
 -- a message can be put at the tail: p is the number of its pair, n that of its place
@@ -202,7 +203,7 @@ module _ {s v : List ℕ} {m : Message} {p n : ℕ} (r : Room s v m p n) where
               rw ended-columns
               (put-index (d .index) z p small (r .room) (set (c .places) (c .tail) n) (g .next) (g .first) (g .joined));
           placed = λ k h live.
-              rw ended-columns (read-by (c .places) (c .tail) n (omega (arith, z .places-long, r .room)) (λ y. y < 4) k
+              rw ended-columns (read-set (c .places) (c .tail) n 0 (omega (arith, z .places-long, r .room)) (λ y. y < 4) k
               (λ _. omega (arith, r .at-place, place-below-four (m .place)))
               (λ ne. d .placed k h (rw (getD-set-other (c .pairs) (c .tail) k p 0 ne) at (rw ended-columns at live))));
           within = rw ended-columns (omega (arith, r .room));

@@ -47,23 +47,15 @@ parts-set (n ∷ ns) l zero i v inside =
     rw (z, take-set-lt n l i v inside, drop-set-lt n l i v inside)
 parts-set (n ∷ ns) l (suc k) i v inside =
     let z : n + offset ns k + i ≡ n + (offset ns k + i) = omega arith in
-    rw (
-      z,
-      take-set-le n l (n + (offset ns k + i)) v (omega arith),
-      drop-set-add n l (offset ns k + i) v,
-      parts-set ns (drop n l) k i v inside,
-    )
+    let before = take-set-le n l (n + (offset ns k + i)) v (omega arith) in
+    rw (z, before, drop-set-add n l (offset ns k + i) v, parts-set ns (drop n l) k i v inside)
 
 -- A store behind all parts is in none.
 parts-past : (ns l : List ℕ) (i v : ℕ) → sum ns ≤ i → parts ns (set l i v) ≡ parts ns l
 parts-past [] l i v behind = refl
 parts-past (n ∷ ns) l i v behind =
     let e : n + (i - n) ≡ i = omega arith in
-    rw (
-      take-set-le n l i v (omega arith),
-      rw e at (drop-set-add n l (i - n) v),
-      parts-past ns (drop n l) (i - n) v (omega arith),
-    )
+    rw (take-set-le n l i v (omega arith), rw e at (drop-set-add n l (i - n) v), parts-past ns (drop n l) (i - n) v (omega arith))
 
 -- A read of a part is a read of the list.
 parts-at : (ns l : List ℕ) (k i : ℕ) → i < getD ns k 0 → getD (getD (parts ns l) k []) i 0 ≡ getD l (offset ns k + i) 0
@@ -79,106 +71,88 @@ parts-long [] l k inside long = absurd (omega arith)
 parts-long (n ∷ ns) l zero inside long = length-take-le n l (omega arith)
 parts-long (n ∷ ns) l (suc k) inside long = parts-long ns (drop n l) k (omega arith) (omega (arith, length-drop n l))
 
+-- The columns by name.
+columns-are : (s : List ℕ) → columnsOf s ≡ named (parts sizes s) (getD s TAIL 0) (getD s UNREAD 0)
+unfolding columnsOf
+columns-are s = refl
+
+-- The same parts have the same names.
+named-by : {l l' : List (List ℕ)} {t t' n n' : ℕ} → l ≡ l' → t ≡ t' → n ≡ n' → named l t n ≡ named l' t' n'
+named-by p q r = rw (p, q, r)
+
 -- The columns of an array of the right length have theirs.
 pub column-sizes : (s : List ℕ) → length s ≡ slotsLength → Sizes (columnsOf s)
-unfolding columnsOf
-column-sizes s long = record {
+column-sizes s long = rw columns-are (record {
   pairs-long = parts-long sizes s 0 (omega arith) (omega arith);
   places-long = parts-long sizes s 1 (omega arith) (omega arith);
   next-long = parts-long sizes s 2 (omega arith) (omega arith);
   first-long = parts-long sizes s 3 (omega arith) (omega arith);
   last-long = parts-long sizes s 4 (omega arith) (omega arith);
   count-long = parts-long sizes s 5 (omega arith) (omega arith);
-}
-
--- The same parts have the same names.
-named-by : {l l' : List (List ℕ)} {t t' n n' : ℕ} → l ≡ l' → t ≡ t' → n ≡ n' → named l t n ≡ named l' t' n'
-named-by p q r = rw (p, q, r)
+})
 
 -- A store in a column of slots or of pairs changes that column alone.
 module _ (s : List ℕ) (i v : ℕ) where
   store-in : (k : ℕ) → i < getD sizes k 0 → offset sizes k + i < TAIL
       → columnsOf (set s (offset sizes k + i) v)
       ≡ named (set (parts sizes s) k (set (getD (parts sizes s) k []) i v)) (getD s TAIL 0) (getD s UNREAD 0)
-  unfolding columnsOf
   store-in k inside before =
-      named-by
-      (parts-set sizes s k i v inside)
+      columns-are (set s (offset sizes k + i) v) ∙ named-by (parts-set sizes s k i v inside)
       (getD-set-other s (offset sizes k + i) TAIL v 0 (λ e. omega (arith, e)))
       (getD-set-other s (offset sizes k + i) UNREAD v 0 (λ e. omega (arith, e)))
 
   pub store-pair : i < SLOTS → columnsOf (set s i v) ≡ withPairs (columnsOf s) (set (columnsOf s .pairs) i v)
-  unfolding columnsOf
-  store-pair inside = let z : 0 + i ≡ i = omega arith in rw z at (store-in 0 inside (omega arith))
+  store-pair inside = let z : 0 + i ≡ i = omega arith in rw (columns-are s) (rw z at (store-in 0 inside (omega arith)))
 
   pub store-place : i < SLOTS → columnsOf (set s (PLACES + i) v) ≡ withPlaces (columnsOf s) (set (columnsOf s .places) i v)
-  unfolding columnsOf
-  store-place inside = store-in 1 inside (omega arith)
+  store-place inside = rw (columns-are s) (store-in 1 inside (omega arith))
 
   pub store-next : i < SLOTS → columnsOf (set s (NEXT + i) v) ≡ withNext (columnsOf s) (set (columnsOf s .next) i v)
-  unfolding columnsOf
-  store-next inside = store-in 2 inside (omega arith)
+  store-next inside = rw (columns-are s) (store-in 2 inside (omega arith))
 
   pub store-first : i < cells → columnsOf (set s (FIRST + i) v) ≡ withFirst (columnsOf s) (set (columnsOf s .first) i v)
-  unfolding columnsOf
-  store-first inside = store-in 3 inside (omega arith)
+  store-first inside = rw (columns-are s) (store-in 3 inside (omega arith))
 
   pub store-last : i < cells → columnsOf (set s (LAST + i) v) ≡ withLast (columnsOf s) (set (columnsOf s .last) i v)
-  unfolding columnsOf
-  store-last inside = store-in 4 inside (omega arith)
+  store-last inside = rw (columns-are s) (store-in 4 inside (omega arith))
 
   pub store-count : i < cells → columnsOf (set s (COUNT + i) v) ≡ withCount (columnsOf s) (set (columnsOf s .count) i v)
-  unfolding columnsOf
-  store-count inside = store-in 5 inside (omega arith)
+  store-count inside = rw (columns-are s) (store-in 5 inside (omega arith))
 
 -- A store of the tail, or of the number of unread, changes that alone.
 module _ (s : List ℕ) (v : ℕ) (long : length s ≡ slotsLength) where
   pub store-tail : columnsOf (set s TAIL v) ≡ withTail (columnsOf s) v
-  unfolding columnsOf
   store-tail =
-      named-by
-      (parts-past sizes s TAIL v (omega arith))
-      (getD-set-same s TAIL v 0 (omega arith))
-      (getD-set-other s TAIL UNREAD v 0 (omega arith))
+      rw (columns-are s) (columns-are (set s TAIL v) ∙ named-by (parts-past sizes s TAIL v (omega arith))
+      (getD-set-same s TAIL v 0 (omega arith)) (getD-set-other s TAIL UNREAD v 0 (omega arith)))
 
   pub store-unread : columnsOf (set s UNREAD v) ≡ withUnread (columnsOf s) v
-  unfolding columnsOf
   store-unread =
-      named-by
-      (parts-past sizes s UNREAD v (omega arith))
-      (getD-set-other s UNREAD TAIL v 0 (omega arith))
-      (getD-set-same s UNREAD v 0 (omega arith))
+      rw (columns-are s) (columns-are (set s UNREAD v) ∙ named-by (parts-past sizes s UNREAD v (omega arith))
+      (getD-set-other s UNREAD TAIL v 0 (omega arith)) (getD-set-same s UNREAD v 0 (omega arith)))
 
 -- A read of each column is a read of the array.
 module _ (s : List ℕ) where
   pub pair-at : (i : ℕ) → i < SLOTS → getD (columnsOf s .pairs) i 0 ≡ getD s i 0
-  unfolding columnsOf
-  pair-at i inside = let z : 0 + i ≡ i = omega arith in rw z at (parts-at sizes s 0 i inside)
+  pair-at i inside = let z : 0 + i ≡ i = omega arith in rw columns-are (rw z at (parts-at sizes s 0 i inside))
 
   pub place-at : (i : ℕ) → i < SLOTS → getD (columnsOf s .places) i 0 ≡ getD s (PLACES + i) 0
-  unfolding columnsOf
-  place-at i inside = parts-at sizes s 1 i inside
+  place-at i inside = rw columns-are (parts-at sizes s 1 i inside)
 
   pub next-at : (i : ℕ) → i < SLOTS → getD (columnsOf s .next) i 0 ≡ getD s (NEXT + i) 0
-  unfolding columnsOf
-  next-at i inside = parts-at sizes s 2 i inside
+  next-at i inside = rw columns-are (parts-at sizes s 2 i inside)
 
   pub first-at : (i : ℕ) → i < cells → getD (columnsOf s .first) i 0 ≡ getD s (FIRST + i) 0
-  unfolding columnsOf
-  first-at i inside = parts-at sizes s 3 i inside
+  first-at i inside = rw columns-are (parts-at sizes s 3 i inside)
 
   pub last-at : (i : ℕ) → i < cells → getD (columnsOf s .last) i 0 ≡ getD s (LAST + i) 0
-  unfolding columnsOf
-  last-at i inside = parts-at sizes s 4 i inside
+  last-at i inside = rw columns-are (parts-at sizes s 4 i inside)
 
   pub count-at : (i : ℕ) → i < cells → getD (columnsOf s .count) i 0 ≡ getD s (COUNT + i) 0
-  unfolding columnsOf
-  count-at i inside = parts-at sizes s 5 i inside
+  count-at i inside = rw columns-are (parts-at sizes s 5 i inside)
 
   pub tail-is : columnsOf s .tail ≡ getD s TAIL 0
-  unfolding columnsOf
-  tail-is = refl
+  tail-is = rw columns-are
 
   pub unread-is : columnsOf s .unread ≡ getD s UNREAD 0
-  unfolding columnsOf
-  unread-is = refl
+  unread-is = rw columns-are
