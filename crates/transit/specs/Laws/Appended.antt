@@ -25,6 +25,7 @@ use Rattle.transit.specs.Columns.{
   SLOTS,
   slotsLength,
 }
+use Rattle.transit.specs.Index.{Sizes}
 use Rattle.base.specs.Lists.{tally}
 use Rattle.transit.specs.Mail.{messagesIn, Mail, Appended}
 use Rattle.transit.specs.Message.{between, placeNumber, ranks, cells}
@@ -92,17 +93,20 @@ module _ {s v : List ℕ} {m : Message} {p n : ℕ} (r : Room s v m p n) where
   small : p < cells
   small = omega (arith, r .of-pair, pair-small (m .sender) (m .receiver) (r .from) (r .to))
 
+  -- The columns have their lengths.
+  sized : Sizes (columnsOf s)
+  sized = column-sizes s (r .mail .slots-long)
+
   -- The tail is a slot.
   pub tail-inside : getD s TAIL 0 < SLOTS
   tail-inside = omega (arith, tail-is s, r .room)
 
   -- A pair has few messages, and few are unread in all.
   pub counts-few : (getD s (COUNT + p) 0 ≤ SLOTS) × (getD s UNREAD 0 < 1024)
-  counts-few =
-      let d = r .mail in (
-        omega (arith, count-at s p small, count-bounded (d .index) (column-sizes s (d .slots-long)) p small),
-        omega (arith, unread-is s, d .stored, r .few),
-      )
+  counts-few = (
+    omega (arith, count-at s p small, count-bounded (r .mail .index) sized p small),
+    omega (arith, unread-is s, r .mail .stored, r .few),
+  )
 
   -- The columns after the first stores.
   begun-columns : let c = columnsOf s in
@@ -110,54 +114,41 @@ module _ {s v : List ℕ} {m : Message} {p n : ℕ} (r : Room s v m p n) where
       ≡ withNext (withPlaces (withPairs c (set (c .pairs) (c .tail) p)) (set (c .places) (c .tail) n)) (set (c .next) (c .tail) SLOTS)
   begun-columns =
       let t = getD s TAIL 0 in
-      rw (
-        store-next (set (set s t p) (PLACES + t) n) t SLOTS tail-inside,
-        store-place (set s t p) t n tail-inside,
-        store-pair s t p tail-inside,
-        tail-is s,
-      )
+      let linked = store-next (set (set s t p) (PLACES + t) n) t SLOTS tail-inside in
+      rw (linked, store-place (set s t p) t n tail-inside, store-pair s t p tail-inside, tail-is s)
 
   -- The pair had none: the slot is its first.
   pub begins : getD s (FIRST + p) 0 ≡ SLOTS → Branched s p n (set (begun s p n) (FIRST + p) (getD s TAIL 0))
   begins none =
       let c = columnsOf s in
-      let d = r .mail in
-      let z = column-sizes s (d .slots-long) in
       record {
         next = set (c .next) (c .tail) SLOTS;
         first = set (c .first) p (c .tail);
-        long = simp length-set (d .slots-long);
-        joined = joined-first (d .index) z p small (r .room) (first-at s p small ∙ none);
+        long = simp length-set (r .mail .slots-long);
+        joined = joined-first (r .mail .index) sized p small (r .room) (first-at s p small ∙ none);
         columns = rw (store-first (begun s p n) p (getD s TAIL 0) small, begun-columns, tail-is s);
       }
 
   module _ (some : getD s (FIRST + p) 0 ≢ SLOTS) where
+    -- The pair has a first slot.
+    has-first : getD (columnsOf s .first) p 0 ≢ SLOTS
+    has-first e = some (sym (first-at s p small) ∙ e)
+
     -- The last slot of a pair that has some is one.
     pub before-inside : getD s (LAST + p) 0 < SLOTS
-    before-inside =
-        let d = r .mail in
-        let z = column-sizes s (d .slots-long) in
-        let inside = last-inside (d .index) z p small (r .room) (λ e. some (sym (first-at s p small) ∙ e)) in
-        omega (arith, last-at s p small)
+    before-inside = omega (arith, last-at s p small, last-inside (r .mail .index) sized p small (r .room) has-first)
 
     -- The pair had some: the slot is behind its last.
     pub goes-behind : Branched s p n (set (begun s p n) (NEXT + getD s (LAST + p) 0) (getD s TAIL 0))
     goes-behind =
         let c = columnsOf s in
-        let d = r .mail in
-        let z = column-sizes s (d .slots-long) in
+        let linked = store-next (begun s p n) (getD s (LAST + p) 0) (getD s TAIL 0) before-inside in
         record {
           next = set (set (c .next) (c .tail) SLOTS) (getD (c .last) p 0) (c .tail);
           first = c .first;
-          long = simp length-set (d .slots-long);
-          joined = joined-behind (d .index) z p small (r .room) (λ e. some (sym (first-at s p small) ∙ e));
-          columns =
-              rw (
-                store-next (begun s p n) (getD s (LAST + p) 0) (getD s TAIL 0) before-inside,
-                begun-columns,
-                last-at s p small,
-                tail-is s,
-              );
+          long = simp length-set (r .mail .slots-long);
+          joined = joined-behind (r .mail .index) sized p small (r .room) has-first;
+          columns = rw (linked, begun-columns, last-at s p small, tail-is s);
         }
 
   module _ (x : List ℕ) (g : Branched s p n x) where
@@ -168,42 +159,31 @@ module _ {s v : List ℕ} {m : Message} {p n : ℕ} (r : Room s v m p n) where
         let k = getD s (COUNT + p) 0 + 1 in
         let x1 = set x (LAST + p) t in
         let x2 = set x1 (COUNT + p) k in
-        let x3 = set x2 TAIL (t + 1) in
-        rw (
-          store-unread x3 (getD s UNREAD 0 + 1) (simp length-set (g .long)),
-          store-tail x2 (t + 1) (simp length-set (g .long)),
-          store-count x1 p k small,
-          store-last x p t small,
-          g .columns,
-          count-at s p small,
-          tail-is s,
-          unread-is s,
-        )
+        let unread = store-unread (set x2 TAIL (t + 1)) (getD s UNREAD 0 + 1) (simp length-set (g .long)) in
+        let tail = store-tail x2 (t + 1) (simp length-set (g .long)) in
+        rw (unread, tail, store-count x1 p k small, store-last x p t small, g .columns, count-at s p small, tail-is s, unread-is s)
 
     -- The message comes last.
     put-same : messagesIn (ended s x p) (set v (getD s TAIL 0) (m .value)) ≡ messagesIn s v ++ (m ∷ [])
     unfolding messagesIn
     put-same =
-        let d = r .mail in
-        let z = column-sizes s (d .slots-long) in
         rw (ended-columns, ← tail-is s, r .of-pair, r .at-place)
-        (put-messages v (g .next) (g .first) m (d .index) z (d .contents-long) (r .room) (r .from) (r .to))
+        (put-messages v (g .next) (g .first) m (r .mail .index) sized (r .mail .contents-long) (r .room) (r .from) (r .to))
 
     -- The arrays hold what they must.
     put-kept : Mail (ended s x p) (set v (getD s TAIL 0) (m .value))
     put-kept =
         let c = columnsOf s in
         let d = r .mail in
-        let z = column-sizes s (d .slots-long) in
         let more = simp length-append at (ap length put-same) in
         record {
           slots-long = simp length-set (g .long);
           contents-long = simp length-set (d .contents-long);
           index =
               rw ended-columns
-              (put-index (d .index) z p small (r .room) (set (c .places) (c .tail) n) (g .next) (g .first) (g .joined));
+              (put-index (d .index) sized p small (r .room) (set (c .places) (c .tail) n) (g .next) (g .first) (g .joined));
           placed = λ k h live.
-              rw ended-columns (read-set (c .places) (c .tail) n 0 (omega (arith, z .places-long, r .room)) (λ y. y < 4) k
+              rw ended-columns (read-set (c .places) (c .tail) n 0 (omega (arith, sized .places-long, r .room)) (λ y. y < 4) k
               (λ _. omega (arith, r .at-place, place-below-four (m .place)))
               (λ ne. d .placed k h (rw (getD-set-other (c .pairs) (c .tail) k p 0 ne) at (rw ended-columns at live))));
           within = rw ended-columns (omega (arith, r .room));

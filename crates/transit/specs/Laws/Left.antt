@@ -77,19 +77,13 @@ module _ {s v : List ℕ} (a b : Rank) (d : Mail s v) (small-a : a .0 < ranks) (
   columns-left =
       let p = pairOf a b in
       let at = getD s (FIRST + p) 0 in
+      let inside = reads-inside .0 in
       let s1 = set s at DEAD in
       let s2 = set s1 (FIRST + p) (getD s (NEXT + at) 0) in
-      let s3 = set s2 (COUNT + p) (getD s (COUNT + p) 0 - 1) in
-      rw (
-        store-unread s3 (getD s UNREAD 0 - 1) (simp length-set (d .slots-long)),
-        store-count s2 p (getD s (COUNT + p) 0 - 1) small,
-        store-first s1 p (getD s (NEXT + at) 0) small,
-        store-pair s at DEAD (reads-inside .0),
-        first-at s p small,
-        next-at s at (reads-inside .0),
-        count-at s p small,
-        unread-is s,
-      )
+      let unread = store-unread (set s2 (COUNT + p) (getD s (COUNT + p) 0 - 1)) (getD s UNREAD 0 - 1) (simp length-set (d .slots-long)) in
+      let count = store-count s2 p (getD s (COUNT + p) 0 - 1) small in
+      let first = store-first s1 p (getD s (NEXT + at) 0) small in
+      rw (unread, count, first, store-pair s at DEAD inside, first-at s p small, next-at s at inside, count-at s p small, unread-is s)
 
   -- The pair's first message is no longer there.
   same-left : messagesIn (without-first s (pairOf a b)) v ≡ without (between a b) (messagesIn s v)

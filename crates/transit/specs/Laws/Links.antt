@@ -103,14 +103,14 @@ pub index-places : {c : Columns} (l : List ℕ) → Index c → Index (withPlace
 index-places l x = record { firsts = x .firsts; nexts = x .nexts; lasts = x .lasts; counts = x .counts; dead = x .dead }
 
 -- The index of dead slots, of pairs that have none.
-pub index-none : {c : Columns} → Sizes c → ((k : ℕ) → k < SLOTS → getD (c .pairs) k 0 ≡ DEAD)
+pub index-none : {c : Columns} → length (c .pairs) ≡ SLOTS → ((k : ℕ) → k < SLOTS → getD (c .pairs) k 0 ≡ DEAD)
     → ((p : ℕ) → p < cells → getD (c .first) p 0 ≡ SLOTS) → ((p : ℕ) → p < cells → getD (c .count) p 0 ≡ 0) → Index c
-index-none {c} z dead firsts counts = record {
+index-none {c} long dead firsts counts = record {
   firsts = λ p b.
       rw (firsts p b)
       (record { past = omega arith; within = omega arith; apart = λ k _ h e. omega (arith, e, dead k h); here = λ h. absurd (omega arith) });
   nexts = λ p i b h own. absurd (omega (arith, own, dead i h));
   lasts = λ p b some. absurd (omega (arith, firsts p b, some));
-  counts = λ p b. counts p b ∙ sym (slots-none p (c .pairs) (λ k h e. omega (arith, e, dead k (omega (arith, z .pairs-long)))));
+  counts = λ p b. counts p b ∙ sym (slots-none p (c .pairs) (λ k h e. omega (arith, e, dead k (omega arith))));
   dead = λ k _ h. dead k h;
 }

@@ -5,15 +5,14 @@ use mathlib.Core.List.{[], _∷_, _++_}
 use Prim.Native.Nat.{ℕ, _+_, _<_}
 use borrow.Author.Tests.{lt-ltb}
 use Rattle.transit.specs.Message.{placeOrder}
-use Rattle.transit.specs.Unread.{Unread, AfterAppend, limit, head, eachTo, firstTo, appended, relabelAll, relabelFirst, leave, removed}
+use Rattle.transit.specs.Unread.{Unread, limit, head, eachTo, firstTo, appended, relabelAll, relabelFirst, leave, removed}
 use Rattle.transit.specs.declared.Message.{Message}
 use Rattle.transit.specs.declared.Place.{Place}
 use Rattle.transit.specs.declared.Selection.{Selection}
 
 -- where there is room the new message comes last
-pub appends :
-    (u : Unread) (m : Message) → u .count < limit →
-    appended u m ≡ record { full = false; unread = record { messages = u .messages ++ (m ∷ []); count = u .count + 1 } }
+pub appends : (u : Unread) (m : Message) → u .count < limit
+    → appended u m ≡ record { full = false; unread = record { messages = u .messages ++ (m ∷ []); count = u .count + 1 } }
 unfolding appended
 appends u m room = rw (lt-ltb (u .count) limit room)
 

@@ -11,7 +11,7 @@ use Rattle.transit.specs.Laws.Operations.{appends, relabels, relabels-fi
 use Rattle.transit.specs.Laws.Removed.{removed-sent-first}
 use Rattle.base.specs.Lists.{select, tally, without, neverFalls}
 use Rattle.transit.specs.Mail.{messagesIn, unreadIn, Appended, Left, Relabelled, FirstRelabelled}
-use Rattle.transit.specs.Message.{number, between, picks, relabelled}
+use Rattle.transit.specs.Message.{number, between}
 use Rattle.transit.specs.Unread.{Unread, limit, counted, head, appended, removed, relabelAll, relabelFirst}
 use Rattle.transit.specs.declared.Message.{Message}
 use Rattle.transit.specs.declared.Place.{Place}
@@ -21,44 +21,32 @@ use Rattle.transit.specs.declared.Selection.the-variants.{Between}
 
 module _ {slots contents slots' : List ℕ} where
   -- a message behind all others
-  pub appended-unread :
-      {m : Message} {n : ℕ} {contents' : List ℕ} →
-      Appended m slots contents n slots' contents' →
-      length (messagesIn slots contents) < limit →
-      appended (unreadIn slots contents) m .unread ≡ unreadIn slots' contents'
+  pub appended-unread : {m : Message} {n : ℕ} {contents' : List ℕ} → Appended m slots contents n slots' contents'
+      → length (messagesIn slots contents) < limit → appended (unreadIn slots contents) m .unread ≡ unreadIn slots' contents'
   appended-unread {m} x room =
       let l = messagesIn slots contents in
       let long : length l + 1 ≡ length (l ++ (m ∷ [])) = omega (arith, length-append l (m ∷ [])) in
       rw (appends (unreadIn slots contents) m room, x .same, long)
 
   -- the selected messages at a place
-  pub relabelled-unread :
-      {s : Selection} {p : Place} {n : ℕ} → Relabelled s p slots contents n slots' →
-      unreadIn slots' contents ≡ relabelAll s p (unreadIn slots contents)
+  pub relabelled-unread : {s : Selection} {p : Place} {n : ℕ} → Relabelled s p slots contents n slots'
+      → unreadIn slots' contents ≡ relabelAll s p (unreadIn slots contents)
   relabelled-unread {s} {p} x = rw (relabels s (unreadIn slots contents) p, x .same, length-map)
 
   -- the first of them at a place
-  pub first-relabelled-unread :
-      {s : Selection} {p : Place} → FirstRelabelled s p slots contents slots' →
-      unreadIn slots' contents ≡ relabelFirst s p (unreadIn slots contents)
-  first-relabelled-unread {s} {p} x =
-      rw (
-        relabels-first s (unreadIn slots contents) p,
-        x .same,
-        length-changeFirst (picks s) (relabelled p) (messagesIn slots contents),
-      )
+  pub first-relabelled-unread : {s : Selection} {p : Place} → FirstRelabelled s p slots contents slots'
+      → unreadIn slots' contents ≡ relabelFirst s p (unreadIn slots contents)
+  first-relabelled-unread {s} {p} x = rw (relabels-first s (unreadIn slots contents) p, x .same, length-changeFirst)
 
   -- the pair's first message has left: where places never fall, that is the first in place order
-  pub left-unread :
-      {a b : Rank} {value rest : ℕ} → Left a b slots contents value rest slots' →
-      0 < tally (between a b) (messagesIn slots contents) →
-      neverFalls (map number (select (between a b) (messagesIn slots contents))) ≡ true →
-      removed (Between a b) (unreadIn slots contents) ≡
-      record { found = head (select (between a b) (messagesIn slots contents)); unread = unreadIn slots' contents }
+  pub left-unread : {a b : Rank} {value rest : ℕ} → Left a b slots contents value rest slots'
+      → 0 < tally (between a b) (messagesIn slots contents)
+      → neverFalls (map number (select (between a b) (messagesIn slots contents))) ≡ true
+      → removed (Between a b) (unreadIn slots contents)
+      ≡ record { found = head (select (between a b) (messagesIn slots contents)); unread = unreadIn slots' contents }
   left-unread {a} {b} x some rises = at (select (between a b) (messagesIn slots contents)) refl some
     where
-      at :
-          (l : List Message) → select (between a b) (messagesIn slots contents) ≡ l → 0 < length l →
-          removed (Between a b) (unreadIn slots contents) ≡ record { found = head l; unread = unreadIn slots' contents }
+      at : (l : List Message) → select (between a b) (messagesIn slots contents) ≡ l → 0 < length l
+          → removed (Between a b) (unreadIn slots contents) ≡ record { found = head l; unread = unreadIn slots' contents }
       at [] e h = absurd (omega arith)
       at (m ∷ l) e h = removed-sent-first (Between a b) (unreadIn slots contents) m l rises e ∙ rw (x .same)

@@ -3,12 +3,12 @@
 use mathlib.Core.List.{List}
 use mathlib.Core.Logic.{_≢_}
 use mathlib.Core.Path.{_≡_, sym, ap, _∙_}
-use Prim.Native.Nat.{ℕ, _+_, _<_, _≤_}
+use Prim.Native.Nat.{ℕ, suc, _+_, _<_, _≤_}
 use native.Mathlib.Omega.{arith}
 use borrow.Author.Tests.{eq-eqb, ne-eqb}
 use lib.ListN.{length, getD, set, length-set}
-use Rattle.transit.specs.Columns.{Columns, columnsOf, PLACES, SLOTS}
-use Rattle.transit.specs.Index.{Index}
+use Rattle.transit.specs.Columns.{Columns, columnsOf, PLACES, NEXT, FIRST, SLOTS}
+use Rattle.transit.specs.Index.{Next, Index}
 use Rattle.transit.specs.Mail.{messagesIn, Mail, FirstRelabelled}
 use Rattle.transit.specs.Message.{placeNumber, picks, relabelled, ranks, cells}
 use Rattle.transit.specs.Search.{Walked, Reached}
@@ -17,7 +17,7 @@ use Rattle.transit.specs.Unread.{firstTo}
 use Rattle.transit.specs.declared.Place.{Place}
 use Rattle.transit.specs.declared.Rank.{Rank}
 use Rattle.transit.specs.declared.Selection.the-variants.{BetweenAt}
-use Rattle.transit.specs.Laws.Columns.{column-sizes, store-place}
+use Rattle.transit.specs.Laws.Columns.{column-sizes, store-place, place-at, next-at, first-at}
 use Rattle.transit.specs.Laws.Earliest.{Earliest, earliest-nothing, earliest-changed}
 use Rattle.base.specs.Laws.Lists.{length-changeFirst, changeFirst-unmet}
 use Rattle.base.specs.Laws.Stores.{read-set}
@@ -27,37 +27,42 @@ use Rattle.transit.specs.Laws.Messages.{pair-small}
 use Rattle.transit.specs.Laws.Order.{place-below-four}
 use Rattle.transit.specs.Laws.Places.{picks-pair}
 
-module _ {c : Columns} (x : Index c) (p n : ℕ) (small : p < cells) where
+module _ (s : List ℕ) (x : Index (columnsOf s)) {p n : ℕ} (small : p < cells) where
   -- A walk begins at the pair's first slot.
-  pub walk-first : Walked c p n (getD (c .first) p 0)
+  pub walk-first : Walked (columnsOf s) p n (getD s (FIRST + p) 0)
   walk-first =
       let f = x .firsts p small in
-      record { within = f .within; own = f .here; none = λ k h mine. absurd (f .apart k (omega arith) h mine) }
+      rw (← first-at s p small)
+      (record { within = f .within; own = f .here; none = λ k h mine. absurd (f .apart k (omega arith) h mine) })
 
-  module _ {at : ℕ} (w : Walked c p n at) (inside : at < SLOTS) where
+  module _ {at : ℕ} (w : Walked (columnsOf s) p n at) (inside : at < SLOTS) where
+    -- The link of the slot.
+    link : Next (columnsOf s .pairs) p (suc at) (getD s (NEXT + at) 0)
+    link = rw (next-at s at inside) at (x .nexts p at small inside (w .own inside))
+
     -- A link leads on.
-    pub walk-on : at < getD (c .next) at 0
-    walk-on = x .nexts p at small inside (w .own inside) .past
+    pub walk-on : at < getD s (NEXT + at) 0
+    walk-on = link .past
 
     -- A walk goes on from a slot that is at another place.
-    pub walk-next : getD (c .places) at 0 ≢ n → Walked c p n (getD (c .next) at 0)
-    walk-next other =
-        let next = x .nexts p at small inside (w .own inside) in
-        record {
-          within = next .within;
-          own = next .here;
-          none = λ k h mine. by-less k at
-              (λ before. w .none k before mine)
-              (λ past. by-equal k at (λ e. rw e other) (λ ne. absurd (next .apart k (omega (arith, ne)) h mine)));
-        }
+    pub walk-next : getD s (PLACES + at) 0 ≢ n → Walked (columnsOf s) p n (getD s (NEXT + at) 0)
+    walk-next other = record {
+      within = link .within;
+      own = link .here;
+      none = λ k h mine. by-less k at
+          (λ before. w .none k before mine)
+          (λ past. by-equal k at
+          (λ e. rw (e, place-at s at inside) other)
+          (λ ne. absurd (link .apart k (omega (arith, ne)) h mine)));
+    }
 
     -- It ends at a slot that is at the place.
-    pub walk-there : getD (c .places) at 0 ≡ n → Reached c p n at
-    walk-there is = record { walked = w; there = λ _. is }
+    pub walk-there : getD s (PLACES + at) 0 ≡ n → Reached (columnsOf s) p n at
+    walk-there is = record { walked = w; there = λ _. place-at s at inside ∙ is }
 
-  -- It ends at 2,048.
-  pub walk-over : {at : ℕ} → Walked c p n at → SLOTS ≤ at → Reached c p n at
-  walk-over w end = record { walked = w; there = λ h. absurd (omega arith) }
+-- It ends at 2,048.
+pub walk-over : {c : Columns} {p n at : ℕ} → Walked c p n at → SLOTS ≤ at → Reached c p n at
+walk-over w end = record { walked = w; there = λ h. absurd (omega arith) }
 
 module _ {s v : List ℕ} (d : Mail s v) (a b : Rank) (small-a : a .0 < ranks) (small-b : b .0 < ranks) (place : Place) {at : ℕ}
     (r : Reached (columnsOf s) (pairOf a b) (placeNumber place) at) where
@@ -72,7 +77,7 @@ module _ {s v : List ℕ} (d : Mail s v) (a b : Rank) (small-a : a .0 < ranks) (
       record {
         live = live;
         passes = λ inside.
-            picks-pair (getD (c .pairs) at 0) (getD (c .places) at 0) (live inside) (d .placed at inside (live inside)) a b place small-a small-b
+            picks-pair _ (getD (c .places) at 0) (live inside) (d .placed at inside (live inside)) a b place small-a small-b
             ∙ both (eq-eqb (getD (c .pairs) at 0) (pairOf a b) (r .walked .own inside))
             (eq-eqb (getD (c .places) at 0) (placeNumber place) (r .there inside));
         others = λ k h slot alive.
@@ -106,5 +111,5 @@ module _ {s v : List ℕ} (d : Mail s v) (a b : Rank) (small-a : a .0 < ranks) (
     pub first-unchanged : SLOTS ≤ at → FirstRelabelled (BetweenAt a b place) target s v s
     first-unchanged end = record {
       kept = d;
-      same = sym (changeFirst-unmet (picks (BetweenAt a b place)) (relabelled target) (messagesIn s v) (earliest-nothing d reached-earliest end));
+      same = sym (changeFirst-unmet _ (relabelled target) (messagesIn s v) (earliest-nothing d reached-earliest end));
     }
