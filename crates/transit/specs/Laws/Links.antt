@@ -35,6 +35,10 @@ module _ (l : List ℕ) (t v : ℕ) (q i j : ℕ) where
     here = λ b. getD-set-other l t j v 0 (λ e. was (ap (λ (x : ℕ). getD l x 0) (sym e) ∙ n .here b)) ∙ n .here b;
   }
 
+-- A pair of which no slot is left has no next.
+pub next-none : (l : List ℕ) (q i : ℕ) → i ≤ SLOTS → ((k : ℕ) → i ≤ k → k < SLOTS → getD l k 0 ≢ q) → Next l q i SLOTS
+next-none l q i past apart = record { past = past; within = omega arith; apart = apart; here = λ h. absurd (omega arith) }
+
 -- what the index says of one pair
 pub record Linked (pairs next first last count : List ℕ) (q : ℕ) : Type 0 where
   pub front : Next pairs q 0 (getD first q 0)
@@ -106,9 +110,7 @@ index-places l x = record { firsts = x .firsts; nexts = x .nexts; lasts = x .las
 pub index-none : {c : Columns} → length (c .pairs) ≡ SLOTS → ((k : ℕ) → k < SLOTS → getD (c .pairs) k 0 ≡ DEAD)
     → ((p : ℕ) → p < cells → getD (c .first) p 0 ≡ SLOTS) → ((p : ℕ) → p < cells → getD (c .count) p 0 ≡ 0) → Index c
 index-none {c} long dead firsts counts = record {
-  firsts = λ p b.
-      rw (firsts p b)
-      (record { past = omega arith; within = omega arith; apart = λ k _ h e. omega (arith, e, dead k h); here = λ h. absurd (omega arith) });
+  firsts = λ p b. rw (firsts p b) (next-none (c .pairs) p 0 (omega arith) (λ k _ h e. omega (arith, e, dead k h)));
   nexts = λ p i b h own. absurd (omega (arith, own, dead i h));
   lasts = λ p b some. absurd (omega (arith, firsts p b, some));
   counts = λ p b. counts p b ∙ sym (slots-none p (c .pairs) (λ k h e. omega (arith, e, dead k (omega arith))));

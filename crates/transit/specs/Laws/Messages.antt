@@ -4,7 +4,7 @@ use mathlib.Core.Bool.{Bool, true}
 use mathlib.Core.List.{List, [], _∷_, _++_}
 use mathlib.Core.Logic.{_≢_}
 use mathlib.Core.Path.{_≡_, refl, sym, ap, _∙_}
-use Prim.Native.Nat.{ℕ, suc, _+_, _/_, _%_, _<_}
+use Prim.Native.Nat.{ℕ, suc, _/_, _%_, _<_}
 use native.Mathlib.Omega.{arith}
 use borrow.Author.Tests.{eq-eqb, ne-eqb, lt-ltb, le-ltb}
 use lib.Dec.{eqb}
@@ -63,7 +63,8 @@ module _ (a b : Rank) (small-a : a .0 < ranks) (small-b : b .0 < ranks) where
       (λ e. rw (ne-eqb (p / ranks) (a .0) e, ne-eqb p (pairOf a b) (λ h. e (omega (arith, h)))))
 
   -- How many messages of a pair are unread.
-  pub count-messages : {c : Columns} (x : Index c) (values : List ℕ) → getD (c .count) (pairOf a b) 0 ≡ tally (between a b) (messagesOf c values)
+  pub count-messages : {c : Columns} (x : Index c) (values : List ℕ)
+      → getD (c .count) (pairOf a b) 0 ≡ tally (between a b) (messagesOf c values)
   count-messages {c} x values =
       x .counts (pairOf a b) pair-small
       ∙ sym (held-tally (messageAt (c .places) values) (between a b) (pairOf a b) pair-small (λ k p h. between-pair p h) 0 (c .pairs))

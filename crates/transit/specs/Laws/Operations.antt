@@ -2,7 +2,7 @@
 use mathlib.Core.Path.{_≡_, refl}
 use mathlib.Core.Bool.{false}
 use mathlib.Core.List.{[], _∷_, _++_}
-use Prim.Native.Nat.{ℕ, _+_, _<_}
+use Prim.Native.Nat.{_+_, _<_}
 use borrow.Author.Tests.{lt-ltb}
 use Rattle.transit.specs.Message.{placeOrder}
 use Rattle.transit.specs.Unread.{Unread, limit, head, eachTo, firstTo, appended, relabelAll, relabelFirst, leave, removed}

@@ -6,8 +6,8 @@ use mathlib.Core.Path.{_≡_, refl, sym, ap, _∙_}
 use Prim.Native.Nat.{ℕ, zero, suc, _+_, _<_, _≤_}
 use native.Mathlib.Numerals.{add-one}
 use native.Mathlib.Omega.{arith}
-use borrow.Author.Tests.{eqb-true, eqb-false, le-ltb, ltb-true, ltb-false}
-use lib.Dec.{eqb, leb, ltb}
+use borrow.Author.Tests.{le-ltb}
+use lib.Dec.{leb}
 use lib.ListN.{length, getD, set, take, length-set, length-map}
 use lib.Seq.{getD-set-same, getD-set-other, take-all}
 use Rattle.transit.specs.Columns.{Columns, columnsOf, PLACES, SLOTS, slotsLength}
@@ -26,7 +26,7 @@ use Rattle.transit.specs.Laws.Mail.{mail-places}
 use Rattle.base.specs.Laws.Lists.{tally-append}
 use Rattle.transit.specs.Laws.Messages.{place-back}
 use Rattle.transit.specs.Laws.Order.{place-below-four}
-use Rattle.base.specs.Laws.Tests.{by-test}
+use Rattle.base.specs.Laws.Tests.{by-test, by-equal, by-less}
 
 -- A slot counts once at most.
 pub one-at-most : (b : Bool) → cond b 1 0 ≤ 1
@@ -48,13 +48,8 @@ dead-other w p n top dead =
 -- Before a pass nothing has changed.
 pub pass-start : (w : Pick) (to : ℕ) (s : List ℕ) → length s ≡ slotsLength → Passed w to s 0 0 s
 unfolding hits
-pass-start w to s long = record {
-  long = long;
-  others = refl;
-  done = λ k h. absurd (omega arith);
-  rest = λ k _. refl;
-  counted = refl;
-}
+pass-start w to s long =
+    record { long = long; others = refl; done = λ k h. absurd (omega arith); rest = λ k _. refl; counted = refl }
 
 -- A pass has come one slot further.
 pub pass-next : {w : Pick} {to : ℕ} {s s' : List ℕ} {i n : ℕ} → i < SLOTS → Passed w to s i n s'
@@ -68,15 +63,14 @@ pass-next {w} {to} {s} {s'} {i} {n} inside g =
     let stored = store-place s' i x inside in
     let places = columnsOf s' .places in
     let fits : i < length places = omega (arith, column-sizes s' (g .long) .places-long) in
-    let pair : getD s' i 0 ≡ getD (c .pairs) i 0 =
-    sym (pair-at s' i inside) ∙ ap (λ (y : Columns). getD (y .pairs) i 0) (g .others) in
+    let pair : getD s' i 0 ≡ getD (c .pairs) i 0 = sym (pair-at s' i inside) ∙ ap (λ (y : Columns). getD (y .pairs) i 0) (g .others) in
     let place : getD s' (PLACES + i) 0 ≡ getD (c .places) i 0 = sym (place-at s' i inside) ∙ g .rest i (omega arith) in
     record {
       long = length-set s' (PLACES + i) x ∙ g .long;
       others = rw (stored, g .others);
-      done = λ k h. rw stored (by-test (eqb k i)
-          (λ e. rw (eqb-true k i e, getD-set-same places i x 0 fits, pair, place))
-          (λ e. let ne = eqb-false k i e in getD-set-other places i k x 0 ne ∙ g .done k (omega (arith, ne))));
+      done = λ k h. rw stored (by-equal k i
+          (λ e. rw (e, getD-set-same places i x 0 fits, pair, place))
+          (λ ne. getD-set-other places i k x 0 ne ∙ g .done k (omega (arith, ne))));
       rest = λ k h. rw stored (getD-set-other places i k x 0 (λ e. omega (arith, e)) ∙ g .rest k (omega arith));
       counted = rw (add-one, g .counted, pair, place);
     }
@@ -100,15 +94,11 @@ module _ {s v : List ℕ} (d : Mail s v) (sel : Selection) (w : Pick) (top : w .
       let p = getD (c .pairs) i 0 in
       let fits' : i < length (c .pairs) = omega (arith, column-sizes s (d .slots-long) .pairs-long) in
       let before = hits-held i (omega arith) in
-      by-test (ltb p cells)
-      (λ e.
-      let live = ltb-true p cells e in
+      by-less p cells
+      (λ live.
       let grown = rw add-one at (held-live f (c .pairs) i fits' live) in
-      rw (grown, tally-append, before) (by-test (picked w p (getD (c .places) i 0))
-      (λ h. rw (here i (omega arith) live, h))
-      (λ h. rw (here i (omega arith) live, h))))
-      (λ e.
-      let dead = ltb-false p cells e in
+      rw (grown, tally-append, before, here i (omega arith) live) (by-test (picked w p (getD (c .places) i 0)) (λ h. rw h) (λ h. rw h)))
+      (λ dead.
       let same = rw add-one at (held-gone f (c .pairs) i fits' dead) in
       rw (same, dead-other w p (getD (c .places) i 0) top dead) (omega (arith, before)))
 

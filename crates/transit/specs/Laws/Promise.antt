@@ -1,6 +1,6 @@
 -- What each routine over the slots makes of the unread messages, as the definitions have it: the promise to the layers above.
 -- Assumes nothing.
-use mathlib.Core.Path.{_≡_, refl, ap, _∙_}
+use mathlib.Core.Path.{_≡_, refl, _∙_}
 use mathlib.Core.Bool.{true}
 use mathlib.Core.List.{List, [], _∷_, _++_, map}
 use Prim.Native.Nat.{ℕ, _+_, _<_}
@@ -9,10 +9,10 @@ use lib.ListN.{length, length-append, length-map}
 use Rattle.base.specs.Laws.Lists.{length-changeFirst}
 use Rattle.transit.specs.Laws.Operations.{appends, relabels, relabels-first}
 use Rattle.transit.specs.Laws.Removed.{removed-sent-first}
-use Rattle.base.specs.Lists.{select, tally, without, neverFalls}
+use Rattle.base.specs.Lists.{select, tally, neverFalls}
 use Rattle.transit.specs.Mail.{messagesIn, unreadIn, Appended, Left, Relabelled, FirstRelabelled}
 use Rattle.transit.specs.Message.{number, between}
-use Rattle.transit.specs.Unread.{Unread, limit, counted, head, appended, removed, relabelAll, relabelFirst}
+use Rattle.transit.specs.Unread.{limit, head, appended, removed, relabelAll, relabelFirst}
 use Rattle.transit.specs.declared.Message.{Message}
 use Rattle.transit.specs.declared.Place.{Place}
 use Rattle.transit.specs.declared.Rank.{Rank}

@@ -11,7 +11,7 @@ use lib.ListN.{length, getD, set}
 use lib.Seq.{getD-set-same, getD-set-other, lt-length-set}
 use Rattle.transit.specs.Columns.{Columns, SLOTS}
 use Rattle.transit.specs.Index.{Next, Index, Sizes}
-use Rattle.transit.specs.Laws.Links.{Linked, next-outside, linked-other, index-of}
+use Rattle.transit.specs.Laws.Links.{Linked, next-outside, next-none, linked-other, index-of}
 use Rattle.base.specs.Laws.Stores.{tally-set}
 use Rattle.base.specs.Laws.Tests.{by-equal, by-less}
 use Rattle.transit.specs.Message.{cells}
@@ -112,15 +112,12 @@ module _ {c : Columns} (x : Index c) (z : Sizes c) (p : ℕ) (small : p < cells)
   -- Nothing is behind the slot.
   next-new : Next (set (c .pairs) (c .tail) p) p (suc (c .tail)) SLOTS
   next-new =
-      next-outside (c .pairs) (c .tail) p p (suc (c .tail)) SLOTS (λ k a _ e. omega (arith, e)) (record {
-        past = inside;
-        within = omega arith;
-        apart = λ k a b e. omega (arith, e, x .dead k (omega arith) b);
-        here = λ b. absurd (omega arith);
-      })
+      next-outside (c .pairs) (c .tail) p p (suc (c .tail)) SLOTS (λ k a _ e. omega (arith, e))
+      (next-none (c .pairs) p (suc (c .tail)) inside (λ k a b e. omega (arith, e, x .dead k (omega arith) b)))
 
   -- Only the last slot of a pair has none behind it.
-  not-last : (i : ℕ) → i < SLOTS → getD (c .pairs) i 0 ≡ p → getD (c .first) p 0 < SLOTS → i ≢ getD (c .last) p 0 → getD (c .next) i 0 < SLOTS
+  not-last : (i : ℕ) → i < SLOTS → getD (c .pairs) i 0 ≡ p → getD (c .first) p 0 < SLOTS → i ≢ getD (c .last) p 0
+      → getD (c .next) i 0 < SLOTS
   not-last i slot mine some ne =
       let l = x .lasts p small some in
       let m = getD (c .last) p 0 in

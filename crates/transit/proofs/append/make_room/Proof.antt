@@ -25,8 +25,9 @@ load-requires c κs =
 
 returns-2 : tie.Need-returns-2
 returns-2 c =
-    let start = c .before .before .before .before .before .before .before .before in
-    let list = ap (λ (u : Unread). u .messages) (c .before .before .before .unload .ensures) in
+    let unloaded = c .before .before .before in
+    let start = unloaded .before .before .before .before .before in
+    let list = ap (λ (u : Unread). u .messages) (unloaded .unload .ensures) in
     let held = c .load .ensures in
     record {
       kept = held .kept;

@@ -23,26 +23,19 @@ loop-holds c = (omega arith, refl)
 
 add-n : tie.Need-add-n Inv-loop μ-loop
 add-n c =
-    let here = c .before .before .before .before .before .loop in
-    let a = c .before .before .before .before .before .before .args in
-    let few = hits-few (a .w) (columnsOf (a .slots .now)) (here .i) in
-    omega (arith, here .inv .1, c .one-if .ensures, one-at-most (c .before .picked .result))
+    let head = c .before .before .before .before .before in
+    let a = head .before .args in
+    let few = hits-few (a .w) (columnsOf (a .slots .now)) (head .loop .i) in
+    omega (arith, head .loop .inv .1, c .one-if .ensures, one-at-most (c .before .picked .result))
 
 loop-again : tie.Need-loop-again Inv-loop μ-loop
 unfolding hits
 loop-again c =
-    let here = c .before .before .before .before .before .loop in
-    let s = c .before .before .before .before .before .before .args .slots .now in (
-      omega arith,
-      rw (
-        add-one,
-        here .inv .1,
-        c .one-if .ensures,
-        c .before .picked .ensures,
-        pair-at s (here .i) (omega arith),
-        place-at s (here .i) (omega arith),
-      ),
-    )
+    let head = c .before .before .before .before .before in
+    let s = head .before .args .slots .now in
+    let pair = pair-at s (head .loop .i) (omega arith) in
+    let place = place-at s (head .loop .i) (omega arith) in
+    (omega arith, rw (add-one, head .loop .inv .1, c .one-if .ensures, c .before .picked .ensures, pair, place))
 
 returns : tie.Need-returns Inv-loop μ-loop
 returns c =

@@ -14,8 +14,8 @@ use Rattle.transit.proofs.find.first_at.Tie as tie
 -- The walk came to the first slot of a message of the pair at the place.
 is-earliest : (h : tie.After-seek) →
     let start = h .before .before .before .before .before .before .before in
-    Earliest (start .args .slots .now) (start .args .contents .now) (picks (BetweenAt (start .args .a) (start .args .b) (start .args .place)))
-    (h .seek .result)
+    let a = start .args in
+    Earliest (a .slots .now) (a .contents .now) (picks (BetweenAt (a .a) (a .b) (a .place))) (h .seek .result)
 is-earliest h =
     let checked = h .before .before .before in
     let start = checked .before .before .before .before in

@@ -26,8 +26,10 @@ abbrev μ-loop : tie.MeasureT-loop
 μ-loop slots₀ contents₀ t end i₀ slots contents i = end - i
 
 -- The next message: its ranks, and the messages up to it.
-next-one : (h : tie.At-loop Inv-loop μ-loop) → let t = h .before .before .before .args .t1 in let i = h .loop .i in i < t .count
-    → (getD (t .messages) i blank .sender .0 < ranks) × (getD (t .messages) i blank .receiver .0 < ranks)
+next-one : (h : tie.At-loop Inv-loop μ-loop) →
+    let t = h .before .before .before .args .t1 in
+    let i = h .loop .i in
+    i < t .count → (getD (t .messages) i blank .sender .0 < ranks) × (getD (t .messages) i blank .receiver .0 < ranks)
     × (take (i + 1) (unreadOf t .messages) ≡ take i (unreadOf t .messages) ++ (getD (t .messages) i blank ∷ []))
 next-one h before =
     let start = h .before .before .before in
@@ -42,9 +44,6 @@ next-one h before =
       ltb-true (m .receiver .0) ranks (both-right (ltb (m .sender .0) ranks) _ both-are),
       rw (add-one, take-suc l i blank inside, same),
     )
-
-clear-requires : tie.Need-clear-requires Inv-loop μ-loop
-clear-requires c κs = c .before .pre .0
 
 loop-holds : tie.Need-loop-holds Inv-loop μ-loop
 loop-holds c = (omega arith, c .clear .ensures (c .before .before .args .contents .now) (c .before .before .pre .1 .0))
@@ -64,14 +63,9 @@ loop-again c =
     let h = c .before .before .before .before .before in
     let n = next-one h (omega arith) in
     let held = h .loop .inv .1 in
-    let longer = simp length-append at (ap length (n .2)) in (
-      omega arith,
-      record {
-        kept = c .put .ensures .0 .kept;
-        same = c .put .ensures .0 .same ∙ rw (held .same, n .2);
-        packed = omega (arith, c .put .ensures .1, held .packed);
-      },
-    )
+    let put = c .put .ensures in
+    let longer = simp length-append at (ap length (n .2)) in
+    (omega arith, record { kept = put .0 .kept; same = put .0 .same ∙ rw (held .same, n .2); packed = omega (arith, put .1, held .packed) })
 
 returns : tie.Need-returns Inv-loop μ-loop
 returns c =
@@ -83,5 +77,5 @@ returns c =
 
 pub load-spec : {M : Type 1} → statement M
 load-spec =
-    tie.close (tie.spec Inv-loop μ-loop clear-requires loop-holds (search needs) (search needs) put-requires
+    tie.close (tie.spec Inv-loop μ-loop (λ c κs. c .before .pre .0) loop-holds (search needs) (search needs) put-requires
     (search needs) (search needs) loop-again returns)

@@ -50,7 +50,9 @@ room h before live =
 message-room : tie.Need-mul-m Inv-loop μ-loop × tie.Need-element-set-from-m Inv-loop μ-loop × tie.Need-add-n Inv-loop μ-loop
 message-room = ((λ c. omega (arith, inside c)), (λ c. omega (arith, inside c)), λ c. omega (arith, inside c))
   where
-    inside : (c : tie.After-message-of Inv-loop μ-loop) → let loop = c .before .before .before .before .before .before in loop .loop .n < 1024
+    inside : (c : tie.After-message-of Inv-loop μ-loop) →
+        let loop = c .before .before .before .before .before .before in
+        loop .loop .n < 1024
     inside c =
         let loop = c .before .before .before .before .before .before in
         room loop (omega arith) (omega arith)

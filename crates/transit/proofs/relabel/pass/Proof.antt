@@ -24,14 +24,12 @@ add-n c = omega (arith, c .one-if .ensures, one-at-most (c .before .before .pick
 
 loop-again : tie.Need-loop-again Inv-loop μ-loop
 loop-again c =
-    let here = c .before .before .before .before .before .before .loop in
-    let a = c .before .before .before .before .before .before .before .args in (
-      omega arith,
-      omega (arith, c .one-if .ensures, one-at-most (c .before .before .picked .result)),
-      λ long.
-          rw (c .one-if .ensures, c .before .choose .ensures, c .before .before .picked .ensures)
-          (pass-next (omega arith) (here .inv .2 long)),
-    )
+    let head = c .before .before .before .before .before .before in
+    let inv = head .loop .inv in
+    let hit = c .before .before .picked in
+    let ones = c .one-if .ensures in
+    let once = one-at-most (hit .result) in
+    (omega arith, omega arith, λ long. rw (ones, c .before .choose .ensures, hit .ensures) (pass-next (omega arith) (inv .2 long)))
 
 returns : tie.Need-returns Inv-loop μ-loop
 returns c =

@@ -9,15 +9,15 @@ use Rattle.transit.proofs.relabel.relabel_between.Tie as tie
 
 returns : tie.Need-returns
 returns c =
-    let start = c .before .before .before .before .before .before in
+    let numbered = c .before .before .before in
+    let start = numbered .before .before .before in
     let a = start .args in
     let pre = start .pre in
     λ v d.
     pass-end d (BetweenAt (a .a) (a .b) (a .from)) (pickBetween (a .a) (a .b) (a .from)) (omega arith)
     (λ p n _ live placed. picked-between p n live placed (a .a) (a .b) (a .from) (pre .0) (pre .1))
     (a .to)
-    (rw (c .before .before .before .before .number .ensures, c .before .before .before .number2 .ensures) at
-    (c .pass .ensures (d .slots-long)))
+    (rw (numbered .before .number .ensures, numbered .number2 .ensures) at (c .pass .ensures (d .slots-long)))
 
 pub relabel-between-spec : {M : Type 1} → statement M
 relabel-between-spec =

@@ -10,28 +10,29 @@ use Rattle.transit.proofs.relabel.relabel_first.Statement.{statement}
 use Rattle.transit.proofs.relabel.relabel_first.Tie as tie
 
 -- The walk came to the pair's first slot at the place.
-is-reached : (h : tie.After-seek) → let a = h .before .before .before .before .before .args in
-    Index (columnsOf (a .slots .now)) → Reached (columnsOf (a .slots .now)) (pairOf (a .a) (a .b)) (placeNumber (a .from)) (h .seek .result)
+is-reached : (h : tie.After-seek) →
+    let start = h .before .before .before .before .before in
+    let c = columnsOf (start .args .slots .now) in
+    Index c → Reached c (pairOf (start .args .a) (start .args .b)) (placeNumber (start .args .from)) (h .seek .result)
 is-reached h x =
-    rw (h .before .before .before .before .pair-of .ensures, h .before .before .before .number .ensures) at (h .seek .ensures x)
+    let numbered = h .before .before .before in
+    rw (numbered .before .pair-of .ensures, numbered .number .ensures) at (h .seek .ensures x)
 
 returns : tie.Need-returns
 returns c =
     let h = c .before in
     let start = h .before .before .before .before .before in
     let a = start .args in
-    let pre = start .pre in
     λ v d.
     rw (h .before .before .number2 .ensures)
-    (first-changed d (a .a) (a .b) (pre .0) (pre .1) (a .from) (is-reached h (d .index)) (a .to) (c .if1 .taken))
+    (first-changed d (a .a) (a .b) (start .pre .0) (start .pre .1) (a .from) (is-reached h (d .index)) (a .to) (c .if1 .taken))
 
 returns-2 : tie.Need-returns-2
 returns-2 c =
     let h = c .before in
     let start = h .before .before .before .before .before in
     let a = start .args in
-    let pre = start .pre in
-    λ v d. first-unchanged d (a .a) (a .b) (pre .0) (pre .1) (a .from) (is-reached h (d .index)) (a .to) (c .if1 .left)
+    λ v d. first-unchanged d (a .a) (a .b) (start .pre .0) (start .pre .1) (a .from) (is-reached h (d .index)) (a .to) (c .if1 .left)
 
 pub relabel-first-spec : {M : Type 1} → statement M
 relabel-first-spec =

@@ -9,14 +9,14 @@ use Rattle.transit.proofs.relabel.relabel_to.Tie as tie
 
 returns : tie.Need-returns
 returns c =
-    let start = c .before .before .before .before .before in
+    let numbered = c .before .before .before in
+    let start = numbered .before .before in
     let a = start .args in
     λ v d.
     pass-end d (ToAt (a .r) (a .from)) (pickTo (a .r) (a .from)) (omega arith)
     (λ p n _ live placed. picked-to p n live placed (a .r) (a .from))
     (a .to)
-    (rw (c .before .before .before .before .number .ensures, c .before .before .before .number2 .ensures) at
-    (c .pass .ensures (d .slots-long)))
+    (rw (numbered .before .number .ensures, numbered .number2 .ensures) at (c .pass .ensures (d .slots-long)))
 
 pub relabel-to-spec : {M : Type 1} → statement M
 relabel-to-spec =

@@ -20,7 +20,8 @@ use Rattle.transit.proofs.tail.put.Tie as tie
 room : (h : tie.After-more) →
     let numbered = h .before .before .before .before .before in
     let start = numbered .before .before .before .before in
-    Room (start .args .slots .now) (start .args .contents .now) (start .args .m) (numbered .before .pair-of .result) (numbered .number .result)
+    let a = start .args in
+    Room (a .slots .now) (a .contents .now) (a .m) (numbered .before .pair-of .result) (numbered .number .result)
 room h =
     let numbered = h .before .before .before .before .before in
     let start = numbered .before .before .before .before in
@@ -61,9 +62,10 @@ put-spec =
     (λ c. omega (arith, tail-inside (room c))) (search needs) (λ c. omega (arith, tail-inside (room c)))
     (λ c. omega (arith, tail-inside (room c))) (λ c. omega (arith, tail-inside (room c))) (λ c. omega (arith, tail-inside (room c)))
     (λ c. omega (arith, tail-inside (room c))) (λ c. omega (arith, tail-inside (room c)))
-    (search needs) (search needs) (stores .0)
-    (λ c. omega (arith, before-inside (room (c .before)) (c .if1 .left))) (λ c. omega (arith, before-inside (room (c .before)) (c .if1 .left)))
-    (λ c. omega (arith, before-inside (room (c .before)) (c .if1 .left))) (λ c. omega (arith, before-inside (room (c .before)) (c .if1 .left)))
-    (search needs) (search needs) (stores .1) (search needs) (search needs) (stores .2)
+    (search needs) (search needs) (stores .0) (λ c. omega (arith, before-inside (room (c .before)) (c .if1 .left)))
+    (λ c. omega (arith, before-inside (room (c .before)) (c .if1 .left)))
+    (λ c. omega (arith, before-inside (room (c .before)) (c .if1 .left)))
+    (λ c. omega (arith, before-inside (room (c .before)) (c .if1 .left))) (search needs) (search needs) (stores .1) (search needs)
+    (search needs) (stores .2)
     (λ c. omega (arith, tail-inside (room (c .before)))) (stores .3) (λ c. omega (arith, counts-few (room (c .before)) .1)) (stores .4)
     returns)
