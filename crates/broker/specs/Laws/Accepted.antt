@@ -16,7 +16,22 @@ use Rattle.broker.specs.Checks.{refusal}
 use Rattle.broker.specs.Laws.Checks.{passes}
 use Rattle.broker.specs.Laws.Opened.{openedChecks}
 use Rattle.broker.specs.Laws.Ranks.{everyRank-at}
-use Rattle.broker.specs.Names.{hosts, numbers, isStarted, isRunning, isMigrating, isEnded, endpoint, isOpenRequest, asksFor, isClosed, isOpen, isClosing, isClear, isUnheeded}
+use Rattle.broker.specs.Names.{
+  hosts,
+  numbers,
+  isStarted,
+  isRunning,
+  isMigrating,
+  isEnded,
+  endpoint,
+  isOpenRequest,
+  asksFor,
+  isClosed,
+  isOpen,
+  isClosing,
+  isClear,
+  isUnheeded,
+}
 use Rattle.broker.specs.State.{State, status, request, connection, backlog, drawnOn, messages}
 use Rattle.broker.specs.declared.answer.Refusal.the-variants.{
   RankRange,
@@ -192,7 +207,12 @@ one-of s r h k =
       started = one-only (isStarted (status s r)) (from-not _ k);
     }
 
-two-of : (s : State) (a b : Rank) → not (isRank a && (isRank b && true)) ≡ false → (sameRank a b || false) ≡ false → not (isStarted (status s a) && (isStarted (status s b) && true)) ≡ false → Two s a b
+two-of :
+    (s : State) (a b : Rank) →
+    not (isRank a && (isRank b && true)) ≡ false →
+    (sameRank a b || false) ≡ false →
+    not (isStarted (status s a) && (isStarted (status s b) && true)) ≡ false →
+    Two s a b
 two-of s a b h e k =
     record {
       first = ltb-true (a .0) ranks (both-left (isRank a) (isRank b && true) (from-not _ h));
