@@ -69,3 +69,8 @@ eachBelow-makes P (suc n) f x k b make keep = at (ℕ-discrete n k) (λ c. eachB
     at : Dec (n ≡ k) → (k < n → P (eachBelow n f x)) → P (f n (eachBelow n f x))
     at (yes e) below = rw e (make (eachBelow k f x))
     at (no d) below = keep n (eachBelow n f x) (below (omega arith))
+
+-- what changes nothing for each number changes nothing
+pub eachBelow-fixed : {A : Type 0} (n : ℕ) (f : ℕ → A → A) (x : A) → ((k : ℕ) → k < n → f k x ≡ x) → eachBelow n f x ≡ x
+eachBelow-fixed zero f x fixed = refl
+eachBelow-fixed (suc n) f x fixed = rw (eachBelow-fixed n f x (λ k b. fixed k (omega arith))) (fixed n (omega arith))

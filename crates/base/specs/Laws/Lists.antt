@@ -10,7 +10,7 @@ use borrow.Author.Tests.{not-true}
 use lib.ListN.{length, getD, take, drop, length-append, length-take}
 use lib.Seq.{drop-cons, getD-take}
 use Rattle.base.specs.Lists.{select, tally, without, changeFirst, changeEach, every}
-use Rattle.base.specs.Laws.Tests.{by-test, both-left, both-right}
+use Rattle.base.specs.Laws.Tests.{by-test, both, both-left, both-right}
 
 module _ {A : Type 0} where
   -- A test that always passes, passes at every element.
@@ -31,6 +31,18 @@ module _ {A : Type 0} where
   -- A wider test passes at every element if the narrower does.
   pub every-wider : (p q : A → Bool) → ((x : A) → p x ≡ true → q x ≡ true) → (l : List A) → every p l ≡ true → every q l ≡ true
   every-wider p q wider l all = every-both p p q (λ x h _. wider x h) l all all
+
+  -- Two tests that pass at every element pass together.
+  pub every-and : (p q : A → Bool) (l : List A) → every p l ≡ true → every q l ≡ true → every (λ x. p x && q x) l ≡ true
+  every-and p q l = every-both p q (λ x. p x && q x) (λ x g e. both g e) l
+
+  -- A test of each of one list with each of another, the other way round.
+  pub every-swap : (p q : A → A → Bool) → ((x y : A) → p x y ≡ true → q y x ≡ true)
+      → (l m : List A) → every (λ x. every (p x) m) l ≡ true → every (λ y. every (q y) l) m ≡ true
+  every-swap p q swap l [] h = refl
+  every-swap p q swap l (y ∷ m) h =
+      both (every-wider _ (q y) (λ x e. swap x y (both-left (p x y) (every (p x) m) e)) l h)
+      (every-swap p q swap l m (every-wider _ (λ x. every (p x) m) (λ x. both-right (p x y) (every (p x) m)) l h))
 
   -- A test at every element of two lists joined.
   pub every-append : (p : A → Bool) (l m : List A) → every p (l ++ m) ≡ (every p l && every p m)
@@ -93,6 +105,11 @@ module _ {A : Type 0} where
   pub select-none : (p : A → Bool) (l : List A) → every (λ x. not (p x)) l ≡ true → select p l ≡ []
   select-none p [] none = refl
   select-none p (x ∷ l) none = simp (not-true (p x) (both-left _ _ none), select-none p l (both-right (not (p x)) _ none))
+
+  -- Where none passes, every element fails.
+  pub none-passes : (p : A → Bool) (l : List A) → select p l ≡ [] → every (λ x. not (p x)) l ≡ true
+  none-passes p [] none = refl
+  none-passes p (x ∷ l) none = by-test (p x) (λ e. cc (rw e at none)) (λ e. simp (e, none-passes p l (rw e at none)))
 
   -- What passes of two lists joined.
   pub select-append : (p : A → Bool) (l m : List A) → select p (l ++ m) ≡ select p l ++ select p m
@@ -158,6 +175,11 @@ module _ {A : Type 0} where
   changeFirst-at q f [] x m none passes = rw passes
   changeFirst-at q f (y ∷ l) x m none passes =
       by-test (q y) (λ e. cc (rw e at none)) (λ e. simp (e, changeFirst-at q f l x m (rw e at none) passes))
+
+  -- A change that the test does not see, of the list without the first that passes.
+  pub without-map : (f : A → A) (p : A → Bool) → ((x : A) → p (f x) ≡ p x) → (l : List A) → map f (without p l) ≡ without p (map f l)
+  without-map f p kept [] = refl
+  without-map f p kept (x ∷ l) = by-test (p x) (λ e. simp (kept x, e)) (λ e. simp (kept x, e, without-map f p kept l))
 
   -- Where something passes, the list without the first that does is one shorter.
   pub length-without : (q : A → Bool) (l : List A) → 0 < tally q l → suc (length (without q l)) ≡ length l

@@ -62,6 +62,17 @@ module _ {A : Type 0} where
   without-shorter q [] = omega arith
   without-shorter q (x ∷ l) = let h = without-shorter q l in by-test (q x) (λ e. rw e (omega arith)) (λ e. rw e (omega arith))
 
+  -- Other numbers of elements that all pass p never fall where theirs do not, if any two that do not fall do not fall then.
+  pub neverFalls-kept : (g h : A → ℕ) (p : A → Bool)
+      → ((x y : A) → p x ≡ true → p y ≡ true → leb (g x) (g y) ≡ true → leb (h x) (h y) ≡ true)
+      → (l : List A) → every p l ≡ true → neverFalls (map g l) ≡ true → neverFalls (map h l) ≡ true
+  neverFalls-kept g h p rises [] all sorted = refl
+  neverFalls-kept g h p rises (x ∷ l) all sorted =
+      let others = both-right (p x) (every p l) all in
+      let first : every (λ y. leb (g x) (g y)) l ≡ true = rw every-map at (both-left (every (leb (g x)) (map g l)) _ sorted) in
+      both {a = every (leb (h x)) (map h l)} (rw every-map (every-both p _ (λ y. leb (h x) (h y)) (λ y. rises x y (both-left (p x) _ all)) l others first))
+      (neverFalls-kept g h p rises l others (both-right (every (leb (g x)) (map g l)) _ sorted))
+
   -- Numbers of elements that all pass p never fall when that of the first that passes q is lowered, if p does not see the change and the
   -- number stays no lower than those up to it of elements that do not pass q.
   pub neverFalls-changeFirst : (g : A → ℕ) (p q : A → Bool) (f : A → A) → ((x : A) → p (f x) ≡ p x) → ((x : A) → q x ≡ true → g (f x) ≤ g x)

@@ -1,12 +1,14 @@
 -- A list after a store: its length, what is read, and how many pass a test. Assumes nothing.
 use mathlib.Core.Bool.{Bool, cond}
-use mathlib.Core.List.{List, [], _∷_}
+use mathlib.Core.List.{List, [], _∷_, map}
 use mathlib.Core.Logic.{_≢_}
-use mathlib.Core.Path.{_≡_}
+use mathlib.Core.Path.{_≡_, refl, sym, ap, _∙_}
 use Prim.Native.Nat.{ℕ, zero, suc, _+_, _<_}
 use native.Mathlib.Omega.{arith}
-use lib.ListN.{length, getD, set, length-set}
-use lib.Seq.{getD-set-same, getD-set-other}
+use borrow.Author.Tests.{eqb-true, eqb-false}
+use lib.Dec.{eqb}
+use lib.ListN.{length, getD, set, length-set, List·getD-map}
+use lib.Seq.{getD-set-same, getD-set-other, map-set-same}
 use Rattle.base.specs.Lists.{tally}
 use Rattle.base.specs.Laws.Tests.{by-test, by-equal}
 
@@ -36,3 +38,22 @@ module _ {A : Type 0} where
       (λ e. by-test (q x) (λ h. rw (e, h) (omega arith)) (λ h. rw (e, h)))
   tally-set q (y ∷ l) (suc i) x d inside =
       let rest = tally-set q l i x d (omega arith) in by-test (q y) (λ e. rw e (omega arith)) (λ e. rw e rest)
+
+-- what stands after a store: the stored at its own index, and at every other what stood there
+pub getD-set : {A : Type 0} (l : List A) (i j : ℕ) (x d : A) → i < length l → getD (set l i x) j d ≡ cond (eqb j i) x (getD l j d)
+getD-set l i j x d h =
+    by-test (eqb j i)
+    (λ e. rw (e, eqb-true j i e) (getD-set-same l i x d h))
+    (λ e. rw e (getD-set-other l i j x d (eqb-false j i e)))
+
+-- what is read of each element is the same after a store of one of which the same is read
+pub store-unseen : {A B : Type 0} (f : A → B) (l : List A) (i j : ℕ) (x d : A) → f x ≡ f (getD l i d)
+    → f (getD (set l i x) j d) ≡ f (getD l j d)
+store-unseen f l i j x d e =
+    sym (List·getD-map f (set l i x) j d) ∙ ap (λ (k : List _). getD k j (f d)) (map-set-same f l i x d e) ∙ List·getD-map f l j d
+
+-- a list of images after a store
+pub map-set : {A B : Type 0} (f : A → B) (l : List A) (i : ℕ) (x : A) → map f (set l i x) ≡ set (map f l) i (f x)
+map-set f [] i x = refl
+map-set f (y ∷ l) zero x = refl
+map-set f (y ∷ l) (suc i) x = rw (map-set f l i x)

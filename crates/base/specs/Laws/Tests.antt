@@ -2,12 +2,13 @@
 -- tests are the same.
 -- Assumes nothing.
 use mathlib.Core.Path.{_≡_, refl, sym, _∙_}
-use mathlib.Core.Bool.{Bool, true, false, cond, _&&_, _||_, and-false, true≢false}
+use mathlib.Core.Bool.{Bool, true, false, not, cond, _&&_, _||_, and-false, true≢false}
 use mathlib.Core.List.{List, [], _∷_}
 use mathlib.Core.Logic.{_≢_}
-use Prim.Native.Nat.{ℕ, _<_, _≤_}
-use borrow.Author.Tests.{eqb-true, eqb-false, ltb-true, ltb-false}
+use Prim.Native.Nat.{ℕ, zero, suc, _<_, _≤_}
+use borrow.Author.Tests.{eqb-true, eqb-false, ne-eqb, ltb-true, ltb-false}
 use lib.Dec.{T, eqb, ltb}
+use lib.ListN.{getD}
 
 -- What holds by either answer of a test holds.
 pub by-test {ℓ} : {P : Type ℓ} (b : Bool) → (b ≡ true → P) → (b ≡ false → P) → P
@@ -41,6 +42,11 @@ pub chosen : {A : Type 0} (P : A → Type 0) (b : Bool) (x y : A) → (b ≡ tru
 chosen P true x y p q = p refl
 chosen P false x y p q = q refl
 
+-- where both values are one, a test chooses it
+pub same-either : {A : Type 0} (b : Bool) (v : A) → cond b v v ≡ v
+same-either true v = refl
+same-either false v = refl
+
 -- where a chosen test passes, it passes with a wider first test
 pub first-wider : (b x y z : Bool) → (x ≡ true → y ≡ true) → cond b x z ≡ true → cond b y z ≡ true
 first-wider true x y z wider h = wider h
@@ -54,6 +60,11 @@ or-right false p = p
 pub or-false-left : (a b : Bool) → (a || b) ≡ false → a ≡ false
 or-false-left true b h = h
 or-false-left false b h = refl
+
+-- a test passes wherever one does from which it follows
+pub if-so : (a b : Bool) → (a ≡ true → b ≡ true) → (not a || b) ≡ true
+if-so true b follows = follows refl
+if-so false b follows = refl
 
 -- a value is not both true and false
 pub not-both : {b : Bool} → b ≡ true → b ≡ false → ⊥
@@ -82,6 +93,13 @@ parts b [] h = (h, tt)
 parts true (c ∷ cs) h = let p = parts c cs h in (refl, (p .0, p .1))
 parts false (c ∷ cs) h = absurd (not-both h (chain-false cs))
 
+-- and the one at each index
+pub chain-at : (b : Bool) (cs : List Bool) → chain b cs ≡ true → (i : ℕ) → getD (b ∷ cs) i true ≡ true
+chain-at b cs h zero = parts b cs h .0
+chain-at b [] h (suc i) = refl
+chain-at true (c ∷ cs) h (suc i) = chain-at c cs h i
+chain-at false (c ∷ cs) h (suc i) = absurd (not-both h (chain-false cs))
+
 -- where each part holds, the chain does
 pub chained : (b : Bool) (cs : List Bool) → b ≡ true → AllTrue cs → chain b cs ≡ true
 chained b [] h t = h
@@ -100,3 +118,7 @@ fails-left b fails = rw fails
 -- And where its second part does.
 pub fails-right : (a : Bool) {b : Bool} → b ≡ false → (a && b) ≡ false
 fails-right a fails = rw fails (and-false a)
+
+-- Two numbers are compared either way round.
+pub eqb-swap : (m n : ℕ) → eqb m n ≡ eqb n m
+eqb-swap m n = by-test (eqb m n) (λ e. rw (eqb-true m n e)) (λ e. e ∙ sym (ne-eqb n m (λ h. eqb-false m n e (sym h))))

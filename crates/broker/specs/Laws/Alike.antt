@@ -1,31 +1,33 @@
 -- What is accepted in one state is accepted in a quiet state with the same core: start, take, move and end as they stand, and a send once
 -- the two ranks are joined. Assumes nothing.
 use mathlib.Core.Path.{_≡_, refl, sym, ap, _∙_}
-use mathlib.Core.Bool.{Bool, true, false, Bool·beq, _&&_, _||_}
+use mathlib.Core.Bool.{Bool, true, false, not, _&&_, _||_}
 use mathlib.Core.List.{List, map}
 use mathlib.Core.Option.{none}
 use Prim.Native.Nat.{ℕ, _<_}
 use lib.ListN.{length, length-map, getD}
 use Rattle.base.specs.Laws.Lists.{select-map}
-use Rattle.base.specs.Laws.Tests.{both-left, not-both, or-right}
+use Rattle.base.specs.Laws.Tests.{both, not-both}
 use Rattle.base.specs.Lists.{tally}
 use Rattle.transit.specs.Message.{between, to, ranks}
 use Rattle.transit.specs.declared.Message.{Message}
 use Rattle.transit.specs.declared.Rank.{Rank}
 use Rattle.broker.specs.Checks.{refusal}
-use Rattle.broker.specs.Laws.Accepted.{One, Two, SendFits, start-fits, send-fits, take-fits, move-fits, end-fits, started-of-migrating, running-not-ended, open-not-closed}
-use Rattle.broker.specs.Laws.Accepts.{start-accepted, call-accepted, route-accepted, send-accepted, take-accepted, move-accepted, land-accepted, part-accepted, end-accepted}
+use Rattle.broker.specs.Laws.Accepted.{One, Two, SendFits, start-fits, send-fits, take-fits, move-fits, end-fits}
+use Rattle.broker.specs.Laws.Accepted.{started-of-migrating, running-not-ended}
+use Rattle.broker.specs.Laws.Accepts.{start-accepted, call-accepted, route-accepted, send-accepted, take-accepted, move-accepted}
+use Rattle.broker.specs.Laws.Accepts.{land-accepted, part-accepted, end-accepted}
 use Rattle.broker.specs.Laws.Core.{Core, core, settled, letter, core-status, endpoint-settled}
+use Rattle.broker.specs.Laws.Fit.{tested-pair, stands, pair-fits}
 use Rattle.broker.specs.Laws.Quiet.{Calm, AllQuiet, Moving, Calling, Joined, nobody}
-use Rattle.broker.specs.Laws.Sound.{Pairs, facts}
+use Rattle.broker.specs.Laws.Sound.{facts}
 use Rattle.broker.specs.Laws.State.{sameRank-self}
-use Rattle.broker.specs.Names.{isStarted, isRunning, isMigrating, isLive, isEnded, isClosed, isOpen, isUnheeded, isClear}
+use Rattle.broker.specs.Laws.View.{side, pairFits}
+use Rattle.broker.specs.Names.{isStarted, isRunning, isMigrating, isLive, isEnded, isClosed, isClear}
 use Rattle.broker.specs.Sound.{sound}
-use Rattle.broker.specs.State.{State, status, connection, backlog, drawnOn, messages}
-use Rattle.broker.specs.declared.link.Backlog.{Backlog}
-use Rattle.broker.specs.declared.link.Backlog.the-variants.{Clear, Unheeded, Marked}
+use Rattle.broker.specs.State.{State, status, connection, drawnOn, messages}
 use Rattle.broker.specs.declared.link.Connection.{Connection}
-use Rattle.broker.specs.declared.link.Connection.the-variants.{Closed, Open, Closing}
+use Rattle.broker.specs.declared.link.Connection.the-variants.{Open}
 use Rattle.broker.specs.declared.link.Link.{Link}
 use Rattle.broker.specs.declared.process.Request.{Request}
 use Rattle.broker.specs.declared.process.Status.{Status}
@@ -53,68 +55,49 @@ live-settled (Running v) = refl
 live-settled (Migrating v w) = refl
 live-settled (Ended v) = refl
 
-live-of-running : (t : Status) → isRunning t ≡ true → isLive t ≡ true
-live-of-running t h = rw h
-
 -- In a sound state a line leads to a rank that is running or migrating.
-pub peer-lives : (s : State) (a b : Rank) → sound s ≡ true → SendFits s a b → isLive (status s b) ≡ true
-peer-lives s a b h f = at (connection s a b) refl (f .line)
-  where
-    pairs : Pairs s
-    pairs = facts s h .pairs
-
-    first : a .0 < ranks
-    first = f .two .first
-
-    second : b .0 < ranks
-    second = f .two .second
-
-    awaited : (g : Backlog) (m t : Bool) → Bool·beq (isUnheeded g) true ≡ true → (isClear g || m && t) ≡ true → m ≡ true
-    awaited Clear m t u e = absurd (not-both u refl)
-    awaited Unheeded m t u e = both-left m t e
-    awaited Marked m t u e = absurd (not-both u refl)
-
-    at : (t : Connection) → connection s a b ≡ t → isClosed t ≡ false → isLive (status s b) ≡ true
-    at Closed e n = absurd (not-both refl n)
-    at Open e n =
-        let back : isOpen (connection s b a) ≡ true = rw e at (pairs .plain-both-sides a b first second) in
-        rw (open-not-closed (connection s b a) back) at (pairs .lines-belong b a second first)
-    at Closing e n =
-        or-right (isRunning (status s b))
-        (awaited (backlog s b a) (isMigrating (status s b)) (isStarted (status s a))
-        (rw e at (pairs .unheeded-is-notice b a second first)) (pairs .awaits-belong b a second first))
+peer-lives : (s : State) (a b : Rank) → sound s ≡ true → SendFits s a b → isLive (status s b) ≡ true
+unfolding pairFits
+peer-lives s a b h f =
+    let pairs = facts s h .pairs in
+    let first = f .two .first in
+    let second = f .two .second in
+    let fit = pair-fits s pairs a b first second in
+    let back = pair-fits s pairs b a second first in
+    tested-pair (λ x y. pairFits x y && pairFits y x && not (isClosed (x .link .connection))) (λ x y. y .runs || y .migrates) refl
+    (side s a b) (side s b a) (stands (status s a)) (stands (status s b)) fit back (both (both fit back) (rw (f .line)))
 
 -- A state s, and a state x with the same standings, settled, in which nobody migrates.
-module _ (s x : State) (standing : core x .statuses ≡ core s .statuses) {q : Rank → Request} {l : Rank → Rank → Connection} (c : Calm x nobody q l) where
-  -- x has the standings of s, settled: who is started is so in both, and who lives in s runs in x.
-  pub status-alike : (r : Rank) → r .0 < ranks → status x r ≡ settled (status s r)
-  status-alike r hr =
-      sym (settled-unless-migrating (status x r) (c .migrating r hr)) ∙
-      sym (core-status x r) ∙
-      ap (λ (ts : List Status). getD ts (r .0) Unstarted) standing ∙
-      core-status s r
+module _ (s x : State) (standing : core x .statuses ≡ core s .statuses) {q : Rank → Request} {l : Rank → Rank → Connection}
+    (c : Calm x nobody q l)
+  where
+    -- x has the standings of s, settled: who is started is so in both, and who lives in s runs in x.
+    pub status-alike : (r : Rank) → r .0 < ranks → status x r ≡ settled (status s r)
+    status-alike r hr =
+        sym (settled-unless-migrating (status x r) (c .migrating r hr)) ∙ sym (core-status x r) ∙
+        ap (λ (ts : List Status). getD ts (r .0) Unstarted) standing ∙ core-status s r
 
-  started-alike : (r : Rank) → r .0 < ranks → isStarted (status x r) ≡ isStarted (status s r)
-  started-alike r hr = rw (status-alike r hr) (started-settled (status s r))
+    started-alike : (r : Rank) → r .0 < ranks → isStarted (status x r) ≡ isStarted (status s r)
+    started-alike r hr = rw (status-alike r hr) (started-settled (status s r))
 
-  live-runs : (r : Rank) → r .0 < ranks → isLive (status s r) ≡ true → isRunning (status x r) ≡ true
-  live-runs r hr h = rw (status-alike r hr, live-settled (status s r)) h
+    live-runs : (r : Rank) → r .0 < ranks → isLive (status s r) ≡ true → isRunning (status x r) ≡ true
+    live-runs r hr h = rw (status-alike r hr, live-settled (status s r)) h
 
-  running-alike : (r : Rank) → r .0 < ranks → isRunning (status s r) ≡ true → isRunning (status x r) ≡ true
-  running-alike r hr h = live-runs r hr (live-of-running (status s r) h)
+    running-alike : (r : Rank) → r .0 < ranks → isRunning (status s r) ≡ true → isRunning (status x r) ≡ true
+    running-alike r hr h = live-runs r hr (rw h)
 
-  one-alike : (r : Rank) → One s r → One x r
-  one-alike r o = record { in-range = o .in-range; started = started-alike r (o .in-range) ∙ o .started }
+    one-alike : (r : Rank) → One s r → One x r
+    one-alike r o = record { in-range = o .in-range; started = started-alike r (o .in-range) ∙ o .started }
 
-  two-alike : (a b : Rank) → Two s a b → Two x a b
-  two-alike a b t =
-      record {
-        first = t .first;
-        second = t .second;
-        apart = t .apart;
-        first-started = started-alike a (t .first) ∙ t .first-started;
-        second-started = started-alike b (t .second) ∙ t .second-started;
-      }
+    two-alike : (a b : Rank) → Two s a b → Two x a b
+    two-alike a b t =
+        record {
+          first = t .first;
+          second = t .second;
+          apart = t .apart;
+          first-started = started-alike a (t .first) ∙ t .first-started;
+          second-started = started-alike b (t .second) ∙ t .second-started;
+        }
 
 -- Two cores that are the same have the same standings.
 pub same-standings : {c d : Core} → c ≡ d → c .statuses ≡ d .statuses
@@ -133,11 +116,8 @@ module _ (s x : State) (same : core x ≡ core s) where
 
   count-alike : sound x ≡ true → sound s ≡ true → x .unread .count ≡ s .unread .count
   count-alike hx hs =
-      sym (facts x hx .mail .counted) ∙
-      sym (length-map (messages x) letter) ∙
-      ap (λ (k : Core). length (k .letters)) same ∙
-      length-map (messages s) letter ∙
-      facts s hs .mail .counted
+      sym (facts x hx .mail .counted) ∙ sym (length-map (messages x) letter) ∙ ap (λ (k : Core). length (k .letters)) same ∙
+      length-map (messages s) letter ∙ facts s hs .mail .counted
 
 -- What s accepts is accepted in a quiet state with the same core.
 module _ (s x : State) (same : core x ≡ core s) (c : AllQuiet x) where
@@ -148,8 +128,8 @@ module _ (s x : State) (same : core x ≡ core s) (c : AllQuiet x) where
       (record {
         in-range = f .in-range;
         host = f .host;
-        unstarted = started-alike s x (same-standings same) c r (f .in-range) ∙ f .unstarted;
         room = rw (drawn-alike s x same h) (f .room);
+        unstarted = started-alike s x (same-standings same) c r (f .in-range) ∙ f .unstarted;
       })
 
   pub take-again : (b a : Rank) → refusal s (Take b a) ≡ none → refusal x (Take b a) ≡ none
@@ -183,9 +163,9 @@ module _ (s x : State) (same : core x ≡ core s) (c : AllQuiet x) where
       end-accepted x r
       (record {
         one = one-alike s x (same-standings same) c r (f .one);
+        idle = rw (c .requests r hr);
         running = running-alike s x (same-standings same) c r hr (f .running);
         closed = λ t ht. ap (λ (k : Link). isClosed (k .connection)) (c .links r t hr ht);
-        idle = rw (c .requests r hr);
         nothing = rw (tally-alike s x same (to r) (λ m. refl)) (f .nothing);
       })
 
@@ -201,54 +181,57 @@ land-after x r hr c =
     })
 
 -- A send that s accepts, on its way through calm states with the same standings: called, routed, sent, parted.
-module _ (s : State) (a b : Rank) (v : ℕ) (p : refusal s (Send a b v) ≡ none) (x : State) (standing : core x .statuses ≡ core s .statuses) where
-  fits : SendFits s a b
-  fits = send-fits s a b v p
+module _ (s : State) (a b : Rank) (v : ℕ) (p : refusal s (Send a b v) ≡ none) (x : State)
+    (standing : core x .statuses ≡ core s .statuses)
+  where
+    fits : SendFits s a b
+    fits = send-fits s a b v p
 
-  first : a .0 < ranks
-  first = fits .two .first
+    first : a .0 < ranks
+    first = fits .two .first
 
-  second : b .0 < ranks
-  second = fits .two .second
+    second : b .0 < ranks
+    second = fits .two .second
 
-  pub call-before : AllQuiet x → refusal x (Call a b) ≡ none
-  call-before c =
-      call-accepted x a b
-      (record {
-        two = two-alike s x standing c a b (fits .two);
-        running = running-alike s x standing c a first (fits .running);
-        closed = ap (λ (k : Link). isClosed (k .connection)) (c .links a b first second);
-        idle = rw (c .requests a first);
-      })
+    pub call-before : AllQuiet x → refusal x (Call a b) ≡ none
+    call-before c =
+        call-accepted x a b
+        (record {
+          two = two-alike s x standing c a b (fits .two);
+          running = running-alike s x standing c a first (fits .running);
+          closed = ap (λ (k : Link). isClosed (k .connection)) (c .links a b first second);
+          idle = rw (c .requests a first);
+        })
 
-  pub route-before : (u : Vmid) → Calling x a b u → refusal x (Route a b) ≡ none
-  route-before u c =
-      route-accepted x a b
-      (record { two = two-alike s x standing c a b (fits .two); asks = rw (c .requests a first, sameRank-self a, sameRank-self b) })
+    pub route-before : (u : Vmid) → Calling x a b u → refusal x (Route a b) ≡ none
+    route-before u c =
+        route-accepted x a b
+        (record { two = two-alike s x standing c a b (fits .two); asks = rw (c .requests a first, sameRank-self a, sameRank-self b) })
 
-  line-stands : Joined x a b → connection x a b ≡ Open
-  line-stands c =
-      ap (λ (k : Link). k .connection) (c .links a b first second) ∙ rw (fits .two .apart, sameRank-self a, sameRank-self b)
+    line-stands : Joined x a b → connection x a b ≡ Open
+    line-stands c =
+        ap (λ (k : Link). k .connection) (c .links a b first second) ∙ rw (fits .two .apart, sameRank-self a, sameRank-self b)
 
-  pub send-again : Joined x a b → core x ≡ core s → sound x ≡ true → sound s ≡ true → refusal x (Send a b v) ≡ none
-  send-again c same hx hs =
-      send-accepted x a b v
-      (record {
-        two = two-alike s x standing c a b (fits .two);
-        running = running-alike s x standing c a first (fits .running);
-        line = rw (line-stands c);
-        room = rw (count-alike s x same hx hs) (fits .room);
-      })
+    pub send-again : Joined x a b → core x ≡ core s → sound x ≡ true → sound s ≡ true → refusal x (Send a b v) ≡ none
+    send-again c same hx hs =
+        send-accepted x a b v
+        (record {
+          two = two-alike s x standing c a b (fits .two);
+          running = running-alike s x standing c a first (fits .running);
+          line = rw (line-stands c);
+          room = rw (count-alike s x same hx hs) (fits .room);
+        })
 
-  pub part-behind : Joined x a b → refusal x (Part a b) ≡ none
-  part-behind c =
-      part-accepted x a b
-      (record {
-        two = two-alike s x standing c a b (fits .two);
-        running = running-alike s x standing c a first (fits .running);
-        plain = rw (line-stands c);
-      })
+    pub part-behind : Joined x a b → refusal x (Part a b) ≡ none
+    part-behind c =
+        part-accepted x a b
+        (record {
+          two = two-alike s x standing c a b (fits .two);
+          running = running-alike s x standing c a first (fits .running);
+          plain = rw (line-stands c);
+        })
 
-  -- The receiver runs, so that a route leads there.
-  pub receiver-runs : {q : Rank → Request} {l : Rank → Rank → Connection} → Calm x nobody q l → sound s ≡ true → isEnded (status x b) ≡ false
-  receiver-runs c hs = running-not-ended (status x b) (live-runs s x standing c b second (peer-lives s a b hs fits))
+    -- The receiver runs, so that a route leads there.
+    pub receiver-runs : {q : Rank → Request} {l : Rank → Rank → Connection} → Calm x nobody q l → sound s ≡ true
+        → isEnded (status x b) ≡ false
+    receiver-runs c hs = running-not-ended (status x b) (live-runs s x standing c b second (peer-lives s a b hs fits))

@@ -1,202 +1,125 @@
--- What each kind does to the view of a pair, and that it keeps every pair and every message fit: one computed test a kind.
--- Assumes nothing.
-use mathlib.Core.Path.{_≡_, refl}
-use mathlib.Core.Bool.{Bool, true, false, not, _&&_, _||_}
-use lib.Dec.{T}
+-- What each kind does to the view of a pair. That it keeps every pair and every message fit is one computed test a kind, which stands
+-- with the kind's effect (`Kept/Effects`). Assumes nothing.
+use mathlib.Core.Bool.{Bool, true, false, not, cond, _&&_, _||_}
 use Rattle.transit.specs.Message.{samePlace}
 use Rattle.transit.specs.declared.Place.{Place}
 use Rattle.transit.specs.declared.Place.the-variants.{SourceList, SourceChannel, EndList, Channel}
-use Rattle.broker.specs.Laws.View.{Standing, unstarted, running, migrating, ended, hasStarted, runs, migrates, lives, Side, Role, forward, backward, outside, turn, Change, pairFits, messageFits, keeps}
-use Rattle.broker.specs.Names.{isClosed, isOpen, isClosing, isClear, isUnheeded}
+use Rattle.broker.specs.Laws.View.{Side, sideOf, Change}
+use Rattle.broker.specs.Names.{unknown, isClosed, isOpen, isClosing, isClear, isUnheeded}
 use Rattle.broker.specs.declared.link.Backlog.{Backlog}
 use Rattle.broker.specs.declared.link.Backlog.the-variants.{Clear, Unheeded, Marked}
 use Rattle.broker.specs.declared.link.Connection.{Connection}
 use Rattle.broker.specs.declared.link.Connection.the-variants.{Closed, Open, Closing}
+use Rattle.broker.specs.declared.link.Link.{Link}
+use Rattle.broker.specs.declared.process.Status.{Status}
+use Rattle.broker.specs.declared.process.Status.the-variants.{Running, Migrating, Ended}
 
--- a side with another standing, line, await or call
-abbrev pub standAs : Standing → Side → Side
-standAs t x = record { stands = t; connection = x .connection; backlog = x .backlog; asks = x .asks }
+-- a link with another line, or another await
+abbrev pub connectAs : Connection → Link → Link
+connectAs c l = record { connection = c; backlog = l .backlog }
 
-abbrev pub connectAs : Connection → Side → Side
-connectAs c x = record { stands = x .stands; connection = c; backlog = x .backlog; asks = x .asks }
+abbrev pub awaitAs : Backlog → Link → Link
+awaitAs g l = record { connection = l .connection; backlog = g }
 
-abbrev pub awaitAs : Backlog → Side → Side
-awaitAs g x = record { stands = x .stands; connection = x .connection; backlog = g; asks = x .asks }
+-- a side with another standing, link or call
+abbrev pub standAs : Status → Side → Side
+standAs t x = sideOf t (x .link) (x .asks)
+
+abbrev pub redone : (Link → Link) → (Bool → Bool) → Side → Side
+redone f u x = record { started = x .started; runs = x .runs; migrates = x .migrates; link = f (x .link); asks = u (x .asks) }
+
+abbrev pub linkAs : (Link → Link) → Side → Side
+linkAs f x = redone f (λ q. q) x
 
 abbrev pub askAs : Bool → Side → Side
-askAs q x = record { stands = x .stands; connection = x .connection; backlog = x .backlog; asks = q }
+askAs q x = redone (λ l. l) (λ _. q) x
 
 -- nothing changes
 abbrev pub same : Side → Side → Side
 same x y = x
 
-abbrev pub stays : Place → Place
-stays p = p
+-- where the place is p it becomes q
+abbrev pub shift : Place → Place → Place → Place
+shift p q x = cond (samePlace x p) q x
 
--- nothing is asked
-abbrev pub anyPair : Side → Side → Bool
-anyPair x y = true
-
-abbrev pub anyMessage : Place → Bool
-anyMessage p = true
-
--- by the role of a pair's first rank
-abbrev pub byRole : {A : Type 0} → A → A → A → Role → A
-byRole f b o forward = f
-byRole f b o backward = b
-byRole f b o outside = o
-
--- a step that asks `fits` of a pair in which a rank has its first part, makes `x` of its side and `y` of the other's, and changes no place
+-- a step that makes `x` of the first side and `y` of the second, asks `fits` of the pair, and neither changes a place nor bars one
 abbrev pub onSides : (Side → Side → Side) → (Side → Side → Side) → (Side → Side → Bool) → Change
-onSides x y fits =
-    record {
-      anew = byRole x y same;
-      place = byRole stays stays stays;
-      asked = byRole fits anyPair anyPair;
-      askedOf = byRole anyMessage anyMessage anyMessage;
-    }
+onSides x y fits = record { own = x; other = y; place = λ p. p; placeBack = λ p. p; asked = fits; bars = λ p. false }
 
 -- the same, with a change of places of the messages to the first, and of those to the second
-abbrev pub moving-places : (Place → Place) → (Place → Place) → Change → Change
-moving-places f b c = record { anew = c .anew; place = byRole f b stays; asked = c .asked; askedOf = c .askedOf }
+abbrev pub placing : (Place → Place) → (Place → Place) → Change → Change
+placing f b c = record { own = c .own; other = c .other; place = f; placeBack = b; asked = c .asked; bars = c .bars }
 
--- the same, where messages to the first are none but those that pass a test
-abbrev pub asking : (Place → Bool) → Change → Change
-asking f c = record { anew = c .anew; place = c .place; asked = c .asked; askedOf = byRole f anyMessage anyMessage }
-
--- a step that changes no view
-abbrev pub idling : Change
-idling = onSides same same anyPair
+-- the same, where no message to the first is at a place that passes a test
+abbrev pub barring : (Place → Bool) → Change → Change
+barring f c = record { own = c .own; other = c .other; place = c .place; placeBack = c .placeBack; asked = c .asked; bars = f }
 
 -- start: the rank runs
 abbrev pub starting : Change
-starting = onSides (λ x y. standAs running x) same (λ x y. not (hasStarted (x .stands)))
+starting = onSides (λ x y. standAs (Running unknown) x) same (λ x y. not (x .started))
 
 -- call: the first asks for the second
 abbrev pub calling : Change
-calling =
-    onSides (λ x y. askAs true x) same
-    (λ x y. runs (x .stands) && hasStarted (y .stands) && isClosed (x .connection))
+calling = onSides (λ x y. askAs true x) same (λ x y. x .runs && y .started && isClosed (x .link .connection))
 
 -- route to an ended rank: the call closes
 abbrev pub withdrawing : Change
-withdrawing = onSides (λ x y. askAs false x) same anyPair
+withdrawing = onSides (λ x y. askAs false x) same (λ x y. true)
+
+-- route on: the first still asks for the second
+abbrev pub reposting : Change
+reposting = onSides (λ x y. askAs true x) same (λ x y. x .asks)
 
 -- route to the current end: a plain line both ways, and no calls
-abbrev pub joined : Side → Side → Side
-joined x y = connectAs Open (askAs false x)
-
 abbrev pub joining : Change
-joining = onSides joined joined (λ x y. x .asks && lives (y .stands))
+joining =
+    let joined : Side → Side → Side = λ x y. askAs false (linkAs (connectAs Open) x) in
+    onSides joined joined (λ x y. x .asks && (y .runs || y .migrates))
 
--- move: by the line that the mover leaves
-abbrev pub leftLine : Connection → Side → Side
-leftLine Closed x = standAs migrating x
-leftLine Open x = standAs migrating (connectAs Closed (awaitAs Unheeded x))
-leftLine Closing x = standAs migrating (connectAs Closed (awaitAs Marked x))
+-- move: the mover's link after its line, and the other's link to it
+abbrev pub leftBy : Connection → Link → Link
+leftBy Closed l = l
+leftBy Open l = record { connection = Closed; backlog = Unheeded }
+leftBy Closing l = record { connection = Closed; backlog = Marked }
 
-abbrev pub facedLine : Connection → Side → Side
-facedLine Closed x = x
-facedLine Open x = connectAs Closing x
-facedLine Closing x = awaitAs Marked x
+abbrev pub facedBy : Connection → Link → Link
+facedBy Closed l = l
+facedBy Open l = connectAs Closing l
+facedBy Closing l = awaitAs Marked l
 
 -- "Messages to r at place 2 go to 0, at 3 to 1."
-abbrev pub leftPlace : Place → Place
-leftPlace SourceList = SourceList
-leftPlace SourceChannel = SourceChannel
-leftPlace EndList = SourceList
-leftPlace Channel = SourceChannel
-
 abbrev pub moving : Change
 moving =
-    moving-places leftPlace stays
-    (onSides (λ x y. leftLine (x .connection) x) (λ x y. facedLine (y .connection) x)
-    (λ x y. runs (x .stands) && not (x .asks)))
+    placing (λ p. shift Channel SourceChannel (shift EndList SourceList p)) (λ p. p)
+    (onSides (λ x y. standAs (Migrating unknown unknown) (linkAs (leftBy (x .link .connection)) x))
+    (λ x y. linkAs (facedBy (y .link .connection)) x) (λ x y. x .runs && not (x .asks)))
 
--- place 3 goes to 2
-abbrev pub readPlace : Place → Place
-readPlace SourceList = SourceList
-readPlace SourceChannel = SourceChannel
-readPlace EndList = EndList
-readPlace Channel = EndList
-
--- heed: the first's line becomes none, the second's await is marked
+-- heed: the first's line becomes none, the second's await is marked, and place 3 of the messages to the first goes to 2
 abbrev pub heeding : Change
 heeding =
-    moving-places readPlace stays
-    (onSides (λ x y. connectAs Closed x) (λ x y. awaitAs Marked x) (λ x y. isClosing (x .connection)))
+    placing (shift Channel EndList) (λ p. p)
+    (onSides (λ x y. linkAs (connectAs Closed) x) (λ x y. linkAs (awaitAs Marked) x) (λ x y. isClosing (x .link .connection)))
 
 -- drain of an end marker: the await becomes none
 abbrev pub clearing : Change
 clearing =
-    asking (λ p. not (samePlace p SourceChannel))
-    (onSides (λ x y. awaitAs Clear x) same (λ x y. not (isUnheeded (x .backlog))))
+    barring (λ p. samePlace p SourceChannel)
+    (onSides (λ x y. linkAs (awaitAs Clear) x) same (λ x y. not (isUnheeded (x .link .backlog))))
 
--- "place 0 goes to 2"
-abbrev pub landedPlace : Place → Place
-landedPlace SourceList = EndList
-landedPlace SourceChannel = SourceChannel
-landedPlace EndList = EndList
-landedPlace Channel = Channel
-
--- land: the arrival runs
+-- land: the arrival runs, and place 0 goes to 2
 abbrev pub landing : Change
 landing =
-    moving-places landedPlace stays
-    (onSides (λ x y. standAs running x) same (λ x y. migrates (x .stands) && isClear (x .backlog)))
+    placing (shift SourceList EndList) (λ p. p)
+    (onSides (λ x y. standAs (Running unknown) x) same (λ x y. x .migrates && isClear (x .link .backlog)))
 
--- part: both lines become none
+-- part: both lines become none, and place 3 goes to 2
 abbrev pub parting : Change
 parting =
-    moving-places readPlace readPlace
-    (onSides (λ x y. connectAs Closed x) (λ x y. connectAs Closed x) (λ x y. isOpen (x .connection)))
+    let closed : Side → Side → Side = λ x y. linkAs (connectAs Closed) x in
+    placing (shift Channel EndList) (shift Channel EndList) (onSides closed closed (λ x y. isOpen (x .link .connection)))
 
 -- end: the rank has ended, with no message to it
 abbrev pub ending : Change
 ending =
-    asking (λ p. false)
-    (onSides (λ x y. standAs ended x) same (λ x y. runs (x .stands) && isClosed (x .connection) && not (x .asks)))
-
-pub idling-keeps : T (keeps idling)
-unfolding keeps pairFits messageFits
-idling-keeps = tt
-
-pub starting-keeps : T (keeps starting)
-unfolding keeps pairFits messageFits
-starting-keeps = tt
-
-pub calling-keeps : T (keeps calling)
-unfolding keeps pairFits messageFits
-calling-keeps = tt
-
-pub withdrawing-keeps : T (keeps withdrawing)
-unfolding keeps pairFits messageFits
-withdrawing-keeps = tt
-
-pub joining-keeps : T (keeps joining)
-unfolding keeps pairFits messageFits
-joining-keeps = tt
-
-pub moving-keeps : T (keeps moving)
-unfolding keeps pairFits messageFits
-moving-keeps = tt
-
-pub heeding-keeps : T (keeps heeding)
-unfolding keeps pairFits messageFits
-heeding-keeps = tt
-
-pub clearing-keeps : T (keeps clearing)
-unfolding keeps pairFits messageFits
-clearing-keeps = tt
-
-pub landing-keeps : T (keeps landing)
-unfolding keeps pairFits messageFits
-landing-keeps = tt
-
-pub parting-keeps : T (keeps parting)
-unfolding keeps pairFits messageFits
-parting-keeps = tt
-
-pub ending-keeps : T (keeps ending)
-unfolding keeps pairFits messageFits
-ending-keeps = tt
+    barring (λ p. true)
+    (onSides (λ x y. standAs (Ended unknown) x) same (λ x y. x .runs && isClosed (x .link .connection) && not (x .asks)))

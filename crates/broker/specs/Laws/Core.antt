@@ -1,9 +1,9 @@
 -- The core of a state: standings with every migration read as done, the numbers drawn, and the unread messages with their places
 -- forgotten; and what each accepted record does to it. That this is so is `Laws/CoreStep`. Assumes nothing.
 use mathlib.Core.Path.{_≡_, refl}
-use mathlib.Core.Bool.{Bool, true}
+use mathlib.Core.Bool.{true}
 use mathlib.Core.List.{List, [], _∷_, _++_, map, map-map}
-use Prim.Native.Nat.{ℕ, zero, suc, _+_, _<_}
+use Prim.Native.Nat.{ℕ, _+_, _<_}
 use lib.ListN.{getD, set}
 use Rattle.base.specs.Laws.Lists.{changeEach-keeps, select-map}
 use Rattle.transit.specs.Laws.Order.{place-order-is-list-order}
@@ -85,18 +85,6 @@ coreStep (Look r) c = c
 abbrev pub valuesBetween : Rank → Rank → Core → List ℕ
 valuesBetween a b c = values a b (c .letters)
 
--- A list of images after a store.
-pub map-set : {A B : Type 0} (f : A → B) (l : List A) (i : ℕ) (x : A) → map f (set l i x) ≡ set (map f l) i (f x)
-map-set f [] i x = refl
-map-set f (y ∷ l) zero x = refl
-map-set f (y ∷ l) (suc i) x = rw (map-set f l i x)
-
--- A list of images without the first that passes.
-pub without-map : {A : Type 0} (f : A → A) (p : A → Bool) → ((x : A) → p (f x) ≡ p x) → (l : List A) → map f (without p l) ≡ without p (map f l)
-without-map f p kept [] = refl
-without-map f p kept (x ∷ l) =
-    by-test (p x) (λ e. simp (kept x, e)) (λ e. simp (kept x, e, without-map f p kept l))
-
 -- Changes of place, of all that are selected or of the first, leave the letters.
 pub eachTo-letters : (s : Selection) (p : Place) (l : List Message) → map letter (eachTo s p l) ≡ map letter l
 eachTo-letters s p [] = refl
@@ -117,7 +105,8 @@ endpoint-settled (Migrating v w) = refl
 endpoint-settled (Ended v) = refl
 
 -- In a sound state place order is the order of sending, so the values that are unread are those of the letters.
-pub unread-values : (s : State) (a b : Rank) → sound s ≡ true → a .0 < ranks → b .0 < ranks → map (λ (m : Message). m .value) (placeOrder (Between a b) (messages s)) ≡ valuesBetween a b (core s)
+pub unread-values : (s : State) (a b : Rank) → sound s ≡ true → a .0 < ranks → b .0 < ranks
+    → map (λ (m : Message). m .value) (placeOrder (Between a b) (messages s)) ≡ valuesBetween a b (core s)
 unread-values s a b h ha hb =
     rw (place-order-is-list-order (Between a b) (messages s) (facts s h .mail .places-rise a b ha hb))
     (rw (select-map (between a b) letter (λ m. refl) (messages s), map-map))

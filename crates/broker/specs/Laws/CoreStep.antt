@@ -4,31 +4,31 @@ use mathlib.Core.Path.{_≡_, refl, ap, _∙_}
 use mathlib.Core.Bool.{true, false}
 use mathlib.Core.List.{List, [], _∷_, map, map-append}
 use mathlib.Core.Option.{none}
-use Prim.Native.Nat.{ℕ}
-use borrow.Author.Tests.{lt-ltb}
 use lib.Dec.{eqb}
 use lib.ListN.{length}
-use Rattle.base.specs.Laws.Lists.{select-map, without-head}
+use Rattle.base.specs.Laws.Lists.{select-map, without-head, without-map}
+use Rattle.base.specs.Laws.Stores.{map-set}
 use Rattle.transit.specs.Laws.Operations.{appends, relabels, relabels-first}
 use Rattle.transit.specs.Laws.Removed.{removed-sent-first}
 use Rattle.base.specs.Lists.{select, without}
 use Rattle.transit.specs.Message.{between}
-use Rattle.transit.specs.Unread.{limit, counted}
+use Rattle.transit.specs.Unread.{counted}
 use Rattle.transit.specs.declared.Found.the-variants.{First}
 use Rattle.transit.specs.declared.Message.{Message}
 use Rattle.transit.specs.declared.Rank.{Rank}
 use Rattle.transit.specs.declared.Selection.the-variants.{Between}
 use Rattle.broker.specs.Checks.{refusal}
-use Rattle.broker.specs.Connect.{call, route, part}
-use Rattle.broker.specs.Laws.Accepted.{SendFits, TakeFits, LandFits, send-fits, take-fits, land-fits}
+use Rattle.broker.specs.Connect.{part}
+use Rattle.broker.specs.Laws.Accepted.{TakeFits, send-fits, take-fits, land-fits}
 use Rattle.broker.specs.Laws.Cases.{drain-cases}
-use Rattle.broker.specs.Laws.Core.{core, settled, letter, arrives, coreStep, valuesBetween, map-set, without-map, eachTo-letters, firstTo-letters, core-status, endpoint-settled}
+use Rattle.broker.specs.Laws.Core.{core, settled, letter, coreStep, valuesBetween, eachTo-letters, firstTo-letters, core-status}
+use Rattle.broker.specs.Laws.Core.{endpoint-settled}
 use Rattle.base.specs.Laws.Tests.{not-both}
 use Rattle.broker.specs.Laws.Sound.{facts}
 use Rattle.broker.specs.Laws.Standings.{standings-with-status, standings-with-request, call-unseen, route-unseen}
 use Rattle.broker.specs.Life.{start, end}
 use Rattle.broker.specs.Messages.{sentMessage, send, take, look, afterTake}
-use Rattle.broker.specs.Migrate.{move, heed, drain, land}
+use Rattle.broker.specs.Migrate.{move, heed, land}
 use Rattle.broker.specs.Names.{endpoint, isMigrating}
 use Rattle.broker.specs.Sound.{sound}
 use Rattle.broker.specs.State.{State, status, messages, withRequest}
@@ -43,50 +43,12 @@ use Rattle.broker.specs.declared.record.Record.the-variants.{Start, Call
 core-with-request : (s : State) (r : Rank) (q : Request) → core (withRequest r q s) ≡ core s
 core-with-request s r q = rw (standings-with-request settled s r q)
 
-call-core : (s : State) (a b : Rank) → core (call a b s .state) ≡ core s
-call-core s a b = call-unseen core core-with-request (λ t ls. refl) (λ t vs. refl) a b s
-
-route-core : (s : State) (a b : Rank) → core (route a b s .state) ≡ core s
-route-core s a b = route-unseen core core-with-request (λ t ls. refl) (λ t vs. refl) a b s
-
-start-core : (s : State) (r : Rank) (h : ℕ) → core (start r h s .state) ≡ arrives r h (core s)
-unfolding start
-start-core s r h = rw map-set
-
-send-core : (s : State) (a b : Rank) (v : ℕ) → SendFits s a b → core (send a b v s .state) ≡ coreStep (Send a b v) (core s)
-unfolding send
-send-core s a b v f = rw (appends (s .unread) (sentMessage a b v s) (f .room), map-append)
-
-move-core : (s : State) (r : Rank) (h : ℕ) → core (move r h s .state) ≡ arrives r h (core s)
-unfolding move
-move-core s r h = rw (relabels, relabels, eachTo-letters, eachTo-letters, map-set)
-
-heed-core : (s : State) (b r : Rank) → core (heed b r s .state) ≡ core s
-unfolding heed
-heed-core s b r = rw (relabels, eachTo-letters)
-
-drain-core : (s : State) (r p : Rank) → core (drain r p s .state) ≡ core s
-drain-core s r p = drain-cases (λ t. core t ≡ core s) r p s (rw (relabels-first, firstTo-letters)) refl
-
-land-core : (s : State) (r : Rank) → LandFits s r → core (land r s .state) ≡ core s
-unfolding land
-land-core s r f =
-    rw (relabels, eachTo-letters)
-    (rw (standings-with-status settled s r (Running (endpoint (status s r))) (at (status s r) (f .migrating))))
-  where
-    at : (t : Status) → isMigrating t ≡ true → settled (Running (endpoint t)) ≡ settled t
-    at Unstarted h = absurd (not-both h refl)
-    at (Running v) h = refl
-    at (Migrating v w) h = refl
-    at (Ended v) h = absurd (not-both h refl)
-
-part-core : (s : State) (a b : Rank) → core (part a b s .state) ≡ core s
-unfolding part
-part-core s a b = rw (relabels, relabels, eachTo-letters, eachTo-letters)
-
-end-core : (s : State) (r : Rank) → core (end r s .state) ≡ coreStep (End r) (core s)
-unfolding end
-end-core s r = rw (map-set, core-status s r, endpoint-settled)
+-- A migration that is done is read as it was before.
+landed-as : (t : Status) → isMigrating t ≡ true → settled (Running (endpoint t)) ≡ settled t
+landed-as Unstarted h = absurd (not-both h refl)
+landed-as (Running v) h = refl
+landed-as (Migrating v w) h = refl
+landed-as (Ended v) h = absurd (not-both h refl)
 
 -- A take takes the first letter of its pair, and answers its value.
 module _ (s : State) (b a : Rank) (h : sound s ≡ true) (f : TakeFits s b a) where
@@ -114,21 +76,27 @@ module _ (s : State) (b a : Rank) (h : sound s ≡ true) (f : TakeFits s b a) wh
   take-value =
       let letters : select (between a b) (map letter (messages s)) ≡ map letter (taken .first ∷ taken .rest) =
       select-map (between a b) letter (λ m. refl) (messages s) ∙ ap (map letter) (taken .found) in
-      rw (taken .removes)
-      (rw (without-head (between a b) (map letter (messages s)) (letter (taken .first)) (map letter (taken .rest)) letters)
-      (rw (letters)))
+      rw (
+        taken .removes,
+        without-head (between a b) (map letter (messages s)) (letter (taken .first)) (map letter (taken .rest)) letters,
+        letters,
+      )
 
-pub core-step : (named : Rank) (s : State) (r : Record) → sound s ≡ true → refusal s r ≡ none → core (apply named r s .state) ≡ coreStep r (core s)
-unfolding apply look
-core-step named s (Start r h) sd p = start-core s r h
-core-step named s (Call a b) sd p = call-core s a b
-core-step named s (Route a b) sd p = route-core s a b
-core-step named s (Send a b v) sd p = send-core s a b v (send-fits s a b v p)
+pub core-step : (named : Rank) (s : State) (r : Record) → sound s ≡ true → refusal s r ≡ none
+    → core (apply named r s .state) ≡ coreStep r (core s)
+unfolding apply look start send move heed land part end
+core-step named s (Start r h) sd p = rw map-set
+core-step named s (Call a b) sd p = call-unseen core core-with-request a b s
+core-step named s (Route a b) sd p = route-unseen core core-with-request (λ t ls. refl) (λ t vs. refl) a b s
+core-step named s (Send a b v) sd p =
+    rw (appends (s .unread) (sentMessage a b v s) (send-fits s a b v p .room), map-append)
 core-step named s (Take b a) sd p = take-core s b a sd (take-fits s b a p)
-core-step named s (Move r h) sd p = move-core s r h
-core-step named s (Heed b r) sd p = heed-core s b r
-core-step named s (Drain r q) sd p = drain-core s r q
-core-step named s (Land r) sd p = land-core s r (land-fits s r p)
-core-step named s (Part a b) sd p = part-core s a b
-core-step named s (End r) sd p = end-core s r
+core-step named s (Move r h) sd p = rw (relabels, relabels, eachTo-letters, eachTo-letters, map-set)
+core-step named s (Heed b r) sd p = rw (relabels, eachTo-letters)
+core-step named s (Drain r q) sd p = drain-cases (λ t. core t ≡ core s) r q s (rw (relabels-first, firstTo-letters)) refl
+core-step named s (Land r) sd p =
+    let stays = landed-as (status s r) (land-fits s r p .migrating) in
+    rw (relabels, eachTo-letters, standings-with-status settled s r (Running (endpoint (status s r))) stays)
+core-step named s (Part a b) sd p = rw (relabels, relabels, eachTo-letters, eachTo-letters)
+core-step named s (End r) sd p = rw (map-set, core-status s r, endpoint-settled)
 core-step named s (Look r) sd p = refl

@@ -3,9 +3,7 @@
 use mathlib.Core.Path.{_≡_, refl, _∙_}
 use mathlib.Core.Bool.{false}
 use mathlib.Core.List.{List}
-use Prim.Native.Nat.{ℕ, zero, suc, _<_}
-use native.Mathlib.Decide.{ℕ-discrete}
-use native.Mathlib.Nat.{not-suc-le-zero}
+use Prim.Native.Nat.{_<_}
 use native.Mathlib.Omega.{arith}
 use borrow.Author.Tests.{eqb-false}
 use lib.ListN.{length, getD, set, length-set}
@@ -19,11 +17,11 @@ use Rattle.broker.specs.Laws.State.{cell-below}
 use Rattle.broker.specs.Life.{announced}
 use Rattle.broker.specs.Names.{unknown}
 use Rattle.broker.specs.Ranks.{eachRank}
-use Rattle.base.specs.Below.{eachBelow}
 use Rattle.broker.specs.State.{cell}
 use Rattle.broker.specs.declared.process.Vmid.{Vmid}
 
-pub eachRank-makes : {A : Type 0} (P : A → Type 0) (f : Rank → A → A) (x : A) (r : Rank) → r .0 < ranks → ((y : A) → P (f r y)) → ((p : Rank) (y : A) → P y → P (f p y)) → P (eachRank f x)
+pub eachRank-makes : {A : Type 0} (P : A → Type 0) (f : Rank → A → A) (x : A) (r : Rank) → r .0 < ranks
+    → ((y : A) → P (f r y)) → ((p : Rank) (y : A) → P y → P (f p y)) → P (eachRank f x)
 unfolding eachRank
 eachRank-makes P f x r b make keep =
     eachBelow-makes P ranks (λ n. f (rank n)) x (r .0) b make (λ j y. keep (rank j) y)
@@ -48,7 +46,8 @@ module _ (r : Rank) (v : Vmid) (ls : List Vmid) (long : length ls ≡ cells) whe
       below p l e = rw (rw length-set at e) (cell-below a r ha hr)
 
   -- and every other entry is what it was
-  pub announced-other : (a b : Rank) → b .0 < ranks → r .0 < ranks → sameRank b r ≡ false → getD (announced r v ls) (cell a b) unknown ≡ getD ls (cell a b) unknown
+  pub announced-other : (a b : Rank) → b .0 < ranks → r .0 < ranks → sameRank b r ≡ false
+      → getD (announced r v ls) (cell a b) unknown ≡ getD ls (cell a b) unknown
   unfolding announced
   announced-other a b hb hr e =
       let d = eqb-false (b .0) (r .0) e in

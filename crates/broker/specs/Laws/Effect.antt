@@ -1,107 +1,119 @@
--- The effect of a step on the views of all pairs, by each pair's role in it; and what follows from a change that keeps every view fit:
--- the pairs stay sound, and so does every message. Assumes nothing.
-use mathlib.Core.Path.{_≡_, refl, sym, ap, _∙_}
+-- The effect of a step on the views of all pairs, those of which it is about the first rank and all others; and what follows where its
+-- change keeps every view fit: the pairs stay sound, and every message stays fit. Assumes nothing.
+use mathlib.Core.Path.{_≡_}
 use mathlib.Core.Bool.{Bool, true, false, cond, not, _&&_}
+use mathlib.Core.List.{map}
 use Prim.Native.Nat.{_<_}
 use borrow.Author.Tests.{ltb-true, not-true}
-use lib.Dec.{T}
-use Rattle.base.specs.Laws.Tests.{both, both-left, both-right, not-both}
-use Rattle.transit.specs.Message.{sameRank, relabelled, isRank, ranks}
+use Rattle.base.specs.Laws.Lists.{every-and, every-both, every-select, every-selected}
+use Rattle.base.specs.Laws.Rising.{neverFalls-kept}
+use Rattle.base.specs.Laws.Tests.{by-test, both, both-left, both-right}
+use Rattle.base.specs.Lists.{every, select, neverFalls}
+use Rattle.transit.specs.Message.{sameRank, relabelled, isRank, ranks, between, number}
 use Rattle.transit.specs.declared.Message.{Message}
 use Rattle.transit.specs.declared.Place.{Place}
 use Rattle.transit.specs.declared.Rank.{Rank}
-use Rattle.broker.specs.Laws.Fit.{pair-fits, pair-kept, message-kept, pairs-from-fits, nothingWith, fits}
-use Rattle.broker.specs.Laws.Sound.{AtRanks, Pairs, isNamed}
-use Rattle.broker.specs.Laws.State.{sameRank-eq, sameRank-self, sameRank-joins}
-use Rattle.broker.specs.Laws.View.{Standing, Side, side, Role, forward, backward, outside, turn, Change, pairFits, messageFits, given, keeps}
-use Rattle.broker.specs.State.{State}
-use Rattle.broker.specs.declared.link.Backlog.{Backlog}
-use Rattle.broker.specs.declared.link.Connection.{Connection}
+use Rattle.broker.specs.Laws.Fit.{pair-fits, pair-kept, pair-kept-back, message-kept, message-kept-back, order-kept, order-kept-back}
+use Rattle.broker.specs.Laws.Fit.{pairs-from-fits, messages-fit, fits}
+use Rattle.broker.specs.Laws.Links.{sender-of, receiver-of}
+use Rattle.broker.specs.Laws.Sound.{AtPairs, Facts, Pairs, isNamed}
+use Rattle.broker.specs.Laws.State.{sameRank-turned}
+use Rattle.broker.specs.Laws.View.{Side, side, nothing, Change, pairFits, messageFits, given, upTo, keeps}
+use Rattle.broker.specs.State.{State, messages}
 
--- two ranks are not one where they differ either way round
-pub sameRank-turned : (a b : Rank) → sameRank a b ≡ false → sameRank b a ≡ false
-sameRank-turned a b e = at (sameRank b a) refl
-  where
-    at : (t : Bool) → sameRank b a ≡ t → t ≡ false
-    at true g = absurd (not-both (sameRank-self a) (rw (sameRank-eq b a g) at e))
-    at false g = refl
+-- a pair's first side anew, and the place of a message to it, by whether the step is about the first rank, and about the second
+abbrev pub sideAnew : Change → Bool → Bool → Side → Side → Side
+sideAnew c p q x y = cond p (c .own x y) (cond q (c .other x y) x)
 
--- no rank is both of two that differ
-pub not-twice : (x a b : Rank) → sameRank a b ≡ false → (sameRank x a && sameRank x b) ≡ false
-not-twice x a b d = at (sameRank x a) (sameRank x b) refl refl
-  where
-    at : (p q : Bool) → sameRank x a ≡ p → sameRank x b ≡ q → (p && q) ≡ false
-    at true true g h = absurd (not-both (sameRank-joins x a b g h) d)
-    at true false g h = refl
-    at false q g h = refl
+abbrev pub placeAnew : Change → Bool → Bool → Place → Place
+placeAnew c p q x = cond p (c .place x) (cond q (c .placeBack x) x)
 
--- a pair is not both ways round the same as two that differ
-pub exclusive : (p q x y : Rank) → sameRank p q ≡ false → (sameRank x p && sameRank y q) ≡ true → (sameRank x q && sameRank y p) ≡ true → ⊥
-exclusive p q x y d g h =
-    not-both (sameRank-joins x p q (both-left (sameRank x p) (sameRank y q) g) (both-left (sameRank x q) (sameRank y p) h)) d
+-- the effect of a step, from one state to the next
+pub record Effect (s s' : State) (c : Change) (about : Rank → Rank → Bool) : Type 0 where
+  pub kept : keeps c ≡ true
+  pub once : (a b : Rank) → sameRank a b ≡ false → about a b ≡ true → about b a ≡ false
+  pub asked : (a b : Rank) → a .0 < ranks → b .0 < ranks → about a b ≡ true → c .asked (side s a b) (side s b a) ≡ true
+  pub sides : (a b : Rank) → a .0 < ranks → b .0 < ranks → side s' a b ≡ sideAnew c (about a b) (about b a) (side s a b) (side s b a)
+  pub self : (a : Rank) → a .0 < ranks → nothing (side s' a a) ≡ true
 
--- the role of a pair in a step about one rank, and in a step about two
-abbrev pub roleOf : Rank → Rank → Rank → Role
-roleOf r a b = cond (sameRank a r) forward (cond (sameRank b r) backward outside)
+module _ {s s' : State} {c : Change} {about : Rank → Rank → Bool} (f : Facts s) (e : Effect s s' c about) where
+  -- two ranks' sides fit afterwards, and so does each message at its place anew
+  record After (a b : Rank) : Type 0 where
+    pair : pairFits (side s' a b) (side s' b a) ≡ true
+    message : (p : Place) → messageFits p (side s a b) (side s b a) ≡ true → not (about a b && c .bars p) ≡ true
+        → messageFits (placeAnew c (about a b) (about b a) p) (side s' a b) (side s' b a) ≡ true
+    order : (p q : Place) → upTo p q ≡ true → messageFits p (side s a b) (side s b a) ≡ true
+        → messageFits q (side s a b) (side s b a) ≡ true → upTo (placeAnew c (about a b) (about b a) p) (placeAnew c (about a b) (about b a) q) ≡ true
 
-abbrev pub roleBetween : Rank → Rank → Rank → Rank → Role
-roleBetween p q a b = cond (sameRank a p && sameRank b q) forward (cond (sameRank a q && sameRank b p) backward outside)
+  demand : (a b : Rank) → a .0 < ranks → b .0 < ranks → about a b ≡ true → given c (side s a b) (side s b a) ≡ true
+  demand a b ha hb is = both (both (pair-fits s (f .pairs) a b ha hb) (pair-fits s (f .pairs) b a hb ha)) (e .asked a b ha hb is)
 
-pub roleOf-turned : (r a b : Rank) → sameRank a b ≡ false → roleOf r b a ≡ turn (roleOf r a b)
-roleOf-turned r a b e = at (sameRank a r) (sameRank b r) refl refl
-  where
-    at : (p q : Bool) → sameRank a r ≡ p → sameRank b r ≡ q → cond q forward (cond p backward outside) ≡ turn (cond p forward (cond q backward outside))
-    at true true g h = absurd (not-both (rw (sameRank-eq a r g, sameRank-eq b r h) (sameRank-self r)) e)
-    at true false g h = refl
-    at false true g h = refl
-    at false false g h = refl
+  after : (a b : Rank) → a .0 < ranks → b .0 < ranks → sameRank a b ≡ false → After a b
+  after a b ha hb d =
+      by-test (about a b)
+      (λ is.
+      let g = demand a b ha hb is in
+      let back = e .once a b d is in
+      record {
+        pair = rw (e .sides a b ha hb, e .sides b a hb ha, is, back) (pair-kept c (e .kept) s a b g);
+        message = λ p m n. rw (e .sides a b ha hb, e .sides b a hb ha, is, back) (message-kept c (e .kept) s a b g p m (rw is at n));
+        order = λ p q o m n. rw is (order-kept c (e .kept) s a b g p q o m n);
+      })
+      (λ no. by-test (about b a)
+      (λ is.
+      let g = demand b a hb ha is in
+      record {
+        pair = rw (e .sides a b ha hb, e .sides b a hb ha, no, is) (pair-kept-back c (e .kept) s b a g);
+        message = λ p m n. rw (e .sides a b ha hb, e .sides b a hb ha, no, is) (message-kept-back c (e .kept) s b a g p m);
+        order = λ p q o m n. rw (no, is) (order-kept-back c (e .kept) s b a g p q o m n);
+      })
+      (λ neither.
+      record {
+        pair = rw (e .sides a b ha hb, e .sides b a hb ha, no, neither) (pair-fits s (f .pairs) a b ha hb);
+        message = λ p m n. rw (e .sides a b ha hb, e .sides b a hb ha, no, neither) m;
+        order = λ p q o m n. rw (no, neither) o;
+      }))
 
-pub roleBetween-turned : (p q a b : Rank) → sameRank p q ≡ false → roleBetween p q b a ≡ turn (roleBetween p q a b)
-roleBetween-turned p q a b e = at (sameRank a p) (sameRank b q) (sameRank a q) (sameRank b p) refl refl
-  where
-    at : (i j k l : Bool) → sameRank a p ≡ i → sameRank a q ≡ k → cond (l && k) forward (cond (j && i) backward outside) ≡ turn (cond (i && j) forward (cond (k && l) backward outside))
-    at true j true l g h = absurd (not-both (sameRank-joins a p q g h) e)
-    at true true false true g h = refl
-    at true true false false g h = refl
-    at true false false true g h = refl
-    at true false false false g h = refl
-    at false true true true g h = refl
-    at false true true false g h = refl
-    at false true false true g h = refl
-    at false true false false g h = refl
-    at false false true true g h = refl
-    at false false true false g h = refl
-    at false false false true g h = refl
-    at false false false false g h = refl
+  pub pairs-stay : Pairs s'
+  pairs-stay = pairs-from-fits s' (e .self) (λ a b ha hb d. after a b ha hb d .pair)
 
--- the effect of a step, from one state to the next: each side anew by the pair's role, and the step's demand met
-pub record Effect (s s' : State) (c : Change) (role : Rank → Rank → Role) : Type 0 where
-  pub sides : (a b : Rank) → a .0 < ranks → b .0 < ranks → sameRank a b ≡ false → side s' a b ≡ c .anew (role a b) (side s a b) (side s b a)
-  pub turned : (a b : Rank) → sameRank a b ≡ false → role b a ≡ turn (role a b)
-  pub asked : (a b : Rank) → a .0 < ranks → b .0 < ranks → sameRank a b ≡ false → c .asked (role a b) (side s a b) (side s b a) ≡ true
+  abbrev pub placedAnew : Message → Message
+  placedAnew m = relabelled (placeAnew c (about (m .receiver) (m .sender)) (about (m .sender) (m .receiver)) (m .place)) m
 
-module _ (s s' : State) (c : Change) (role : Rank → Rank → Role) (kept : T (keeps c)) (f : Pairs s) (e : Effect s s' c role) where
-  demand : (a b : Rank) → a .0 < ranks → b .0 < ranks → sameRank a b ≡ false → given c (role a b) (side s a b) (side s b a) ≡ true
-  demand a b ha hb d =
-      both
-      (both (both (pair-fits s f a b ha hb) (pair-fits s f b a hb ha)) (e .asked a b ha hb d))
-      (rw (sym (e .turned a b d)) (e .asked b a hb ha (sameRank-turned a b d)))
+  -- no message is where the step bars it
+  abbrev pub Unbarred : Type 0
+  Unbarred = every (λ m. not (about (m .receiver) (m .sender) && c .bars (m .place))) (messages s) ≡ true
 
-  other : (a b : Rank) → a .0 < ranks → b .0 < ranks → sameRank a b ≡ false → side s' b a ≡ c .anew (turn (role a b)) (side s b a) (side s a b)
-  other a b ha hb d = rw (sym (e .turned a b d)) (e .sides b a hb ha (sameRank-turned a b d))
+  after-of : (m : Message) → isNamed m ≡ true → After (m .receiver) (m .sender)
+  after-of m name =
+      let ranked = both-left (isRank (m .sender) && isRank (m .receiver)) _ name in
+      let from = ltb-true (m .sender .0) ranks (both-left (isRank (m .sender)) (isRank (m .receiver)) ranked) in
+      let to = ltb-true (m .receiver .0) ranks (both-right (isRank (m .sender)) (isRank (m .receiver)) ranked) in
+      let d = not-true (sameRank (m .sender) (m .receiver)) (both-right (isRank (m .sender) && isRank (m .receiver)) _ name) in
+      after (m .receiver) (m .sender) to from (sameRank-turned (m .sender) (m .receiver) d)
 
-  -- the pairs stay sound
-  pub pairs-stay : AtRanks (nothingWith s') → Pairs s'
-  pairs-stay self =
-      pairs-from-fits s' self
-      (λ a b ha hb d. rw (e .sides a b ha hb d, other a b ha hb d) (pair-kept c kept (role a b) (side s a b) (side s b a) (demand a b ha hb d)))
+  all-known : every (λ m. isNamed m && fits s m) (messages s) ≡ true
+  all-known = every-and isNamed (fits s) (messages s) (f .mail .named) (messages-fit s (f .mail))
 
-  -- a message stays fit at its place anew
-  pub message-stays : (m : Message) → isNamed m ≡ true → fits s m ≡ true → c .askedOf (role (m .receiver) (m .sender)) (m .place) ≡ true → fits s' (relabelled (c .place (role (m .receiver) (m .sender)) (m .place)) m) ≡ true
-  message-stays m n h k =
-      let named = both-left (isRank (m .sender) && isRank (m .receiver)) (not (sameRank (m .sender) (m .receiver))) n in
-      let from = ltb-true (m .sender .0) ranks (both-left (isRank (m .sender)) (isRank (m .receiver)) named) in
-      let to = ltb-true (m .receiver .0) ranks (both-right (isRank (m .sender)) (isRank (m .receiver)) named) in
-      let d = sameRank-turned (m .sender) (m .receiver) (not-true (sameRank (m .sender) (m .receiver)) (both-right (isRank (m .sender) && isRank (m .receiver)) (not (sameRank (m .sender) (m .receiver))) n)) in
-      rw (e .sides (m .receiver) (m .sender) to from d, other (m .receiver) (m .sender) to from d)
-      (message-kept c kept (role (m .receiver) (m .sender)) (side s (m .receiver) (m .sender)) (side s (m .sender) (m .receiver)) (demand (m .receiver) (m .sender) to from d) (m .place) h k)
+  pub messages-stay : Unbarred → every (λ m. fits s' (placedAnew m)) (messages s) ≡ true
+  messages-stay =
+      every-both (λ m. isNamed m && fits s m) _ (λ m. fits s' (placedAnew m))
+      (λ m h. after-of m (both-left (isNamed m) (fits s m) h) .message (m .place) (both-right (isNamed m) (fits s m) h))
+      (messages s) all-known
+
+  -- the places of each pair never fall
+  pub order-stays : AtPairs (λ a b. neverFalls (map (λ m. number (placedAnew m)) (select (between a b) (messages s))))
+  order-stays a b ha hb =
+      neverFalls-kept number (λ m. number (placedAnew m)) (λ m. between a b m && (isNamed m && fits s m))
+      (λ x y kx ky o.
+      let here = both-right (between a b x) _ kx in
+      let is = both-left (between a b x) _ kx in
+      let too = both-left (between a b y) _ ky in
+      let g : After b a = rw (sender-of a b x is, receiver-of a b x is) at (after-of x (both-left (isNamed x) (fits s x) here)) in
+      rw (sender-of a b x is, receiver-of a b x is, sender-of a b y too, receiver-of a b y too)
+      (g .order (x .place) (y .place) o (rw (sender-of a b x is, receiver-of a b x is) at (both-right (isNamed x) (fits s x) here))
+      (rw (sender-of a b y too, receiver-of a b y too) at (both-right (isNamed y) (fits s y) (both-right (between a b y) _ ky)))))
+      (select (between a b) (messages s))
+      (every-and (between a b) _ (select (between a b) (messages s)) (every-selected (between a b) (messages s))
+      (every-select (λ m. isNamed m && fits s m) (between a b) (messages s) all-known))
+      (f .mail .places-rise a b ha hb)

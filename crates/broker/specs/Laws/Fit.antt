@@ -1,25 +1,25 @@
 -- From a computed test to every view: what a change that keeps pairs and messages fit does to each. And from soundness to the views
 -- of its pairs and messages, and back. Assumes nothing.
-use mathlib.Core.Path.{_≡_, refl, sym, ap, _∙_}
-use mathlib.Core.Bool.{Bool, true, false, not, Bool·beq, _&&_, _||_, true≢false}
+use mathlib.Core.Path.{_≡_, refl, sym}
+use mathlib.Core.Bool.{Bool, true, false, not, _&&_, true≢false}
 use mathlib.Core.List.{List, [], _∷_}
-use lib.Dec.{T}
-use Prim.Native.Nat.{_<_}
-use borrow.Author.Tests.{ltb-true, not-true}
-use Rattle.base.specs.Laws.Lists.{every-both, every-wider}
-use Rattle.base.specs.Laws.Tests.{both, both-left, both-right, AllTrue, parts, chained, true-of}
+use Prim.Native.Nat.{ℕ, _<_}
+use native.Mathlib.Omega.{arith}
+use lib.ListN.{getD}
+use Rattle.base.specs.Laws.Lists.{every-and, every-at, every-wider}
+use Rattle.base.specs.Laws.Tests.{by-test, both, both-left, both-right, chain, chain-at}
 use Rattle.base.specs.Lists.{every}
-use Rattle.transit.specs.Message.{sameRank, samePlace, at, isRank, ranks}
+use Rattle.transit.specs.Message.{sameRank, ranks}
 use Rattle.transit.specs.declared.Message.{Message}
 use Rattle.transit.specs.declared.Place.{Place}
-use Rattle.transit.specs.declared.Place.the-variants.{SourceList, SourceChannel, Channel}
-use Rattle.transit.specs.declared.Place.the-variants as places
+use Rattle.transit.specs.declared.Place.the-variants.{SourceList, SourceChannel, EndList, Channel}
 use Rattle.transit.specs.declared.Rank.{Rank}
-use Rattle.broker.specs.Laws.Sound.{AtRanks, AtPairs, Pairs, Mail, isNamed, hasEnds, fitsUnheeded, fitsPlace}
+use Rattle.broker.specs.Laws.Sound.{AtRanks, AtPairs, Pairs, Mail, hasEnds, fitsUnheeded, fitsPlace}
 use Rattle.broker.specs.Laws.State.{sameRank-eq}
-use Rattle.broker.specs.Laws.View.{Standing, unstarted, running, migrating, ended, standing, hasStarted, runs, migrates, lives, Side, side, Role, forward, backward, outside, turn, Change, pairFits, messageFits, sideFits, given, keeps, pairKept, messageKept, atStandings, atConnections, atBacklogs, atBools, atPlaces, atRoles, atSides, atPairs}
-use Rattle.broker.specs.Names.{isStarted, isRunning, isMigrating, isLive, asksFor, isClosed, isOpen, isClosing, isClear, isUnheeded}
-use Rattle.broker.specs.State.{State, status, request, connection, backlog, messages}
+use Rattle.broker.specs.Laws.View.{Side, sideOf, side, nothing, Change, lineBelongs, pairClauses, pairFits, messageFits, connections}
+use Rattle.broker.specs.Laws.View.{backlogs, answers, places, ifSo, atSides, standsSo, sideFits, atPairs, given, upTo, orderKept}
+use Rattle.broker.specs.Laws.View.{messageKept, messagesKept, keeps}
+use Rattle.broker.specs.State.{State, apart, status, messages}
 use Rattle.broker.specs.declared.link.Backlog.{Backlog}
 use Rattle.broker.specs.declared.link.Backlog.the-variants.{Clear, Unheeded, Marked}
 use Rattle.broker.specs.declared.link.Connection.{Connection}
@@ -29,228 +29,185 @@ use Rattle.broker.specs.declared.process.Status.the-variants.{Unstarted,
 
 -- A test at every value holds at each.
 
-at-standing : (f : Standing → Bool) → atStandings f ≡ true → (t : Standing) → f t ≡ true
-at-standing f h unstarted = parts (f unstarted) (f running ∷ f migrating ∷ f ended ∷ []) h .0
-at-standing f h running = parts (f unstarted) (f running ∷ f migrating ∷ f ended ∷ []) h .1 .0
-at-standing f h migrating = parts (f unstarted) (f running ∷ f migrating ∷ f ended ∷ []) h .1 .1 .0
-at-standing f h ended = parts (f unstarted) (f running ∷ f migrating ∷ f ended ∷ []) h .1 .1 .1 .0
+at-connection : (f : Connection → Bool) → every f connections ≡ true → (c : Connection) → f c ≡ true
+at-connection f h Closed = every-at f connections 0 Closed h (omega arith)
+at-connection f h Open = every-at f connections 1 Open h (omega arith)
+at-connection f h Closing = every-at f connections 2 Closing h (omega arith)
 
-at-connection : (f : Connection → Bool) → atConnections f ≡ true → (c : Connection) → f c ≡ true
-at-connection f h Closed = parts (f Closed) (f Open ∷ f Closing ∷ []) h .0
-at-connection f h Open = parts (f Closed) (f Open ∷ f Closing ∷ []) h .1 .0
-at-connection f h Closing = parts (f Closed) (f Open ∷ f Closing ∷ []) h .1 .1 .0
+at-backlog : (f : Backlog → Bool) → every f backlogs ≡ true → (g : Backlog) → f g ≡ true
+at-backlog f h Clear = every-at f backlogs 0 Clear h (omega arith)
+at-backlog f h Unheeded = every-at f backlogs 1 Unheeded h (omega arith)
+at-backlog f h Marked = every-at f backlogs 2 Marked h (omega arith)
 
-at-backlog : (f : Backlog → Bool) → atBacklogs f ≡ true → (g : Backlog) → f g ≡ true
-at-backlog f h Clear = parts (f Clear) (f Unheeded ∷ f Marked ∷ []) h .0
-at-backlog f h Unheeded = parts (f Clear) (f Unheeded ∷ f Marked ∷ []) h .1 .0
-at-backlog f h Marked = parts (f Clear) (f Unheeded ∷ f Marked ∷ []) h .1 .1 .0
+at-answer : (f : Bool → Bool) → every f answers ≡ true → (b : Bool) → f b ≡ true
+at-answer f h true = every-at f answers 0 true h (omega arith)
+at-answer f h false = every-at f answers 1 false h (omega arith)
 
-at-bool : (f : Bool → Bool) → atBools f ≡ true → (b : Bool) → f b ≡ true
-at-bool f h true = both-left (f true) (f false) h
-at-bool f h false = both-right (f true) (f false) h
+pub at-place : (f : Place → Bool) → every f places ≡ true → (p : Place) → f p ≡ true
+at-place f h SourceList = every-at f places 0 SourceList h (omega arith)
+at-place f h SourceChannel = every-at f places 1 SourceChannel h (omega arith)
+at-place f h EndList = every-at f places 2 EndList h (omega arith)
+at-place f h Channel = every-at f places 3 Channel h (omega arith)
 
-at-each-place : (f : Place → Bool) → atPlaces f ≡ true → (p : Place) → f p ≡ true
-at-each-place f h places.SourceList = parts (f places.SourceList) (f places.SourceChannel ∷ f places.EndList ∷ f places.Channel ∷ []) h .0
-at-each-place f h places.SourceChannel = parts (f places.SourceList) (f places.SourceChannel ∷ f places.EndList ∷ f places.Channel ∷ []) h .1 .0
-at-each-place f h places.EndList = parts (f places.SourceList) (f places.SourceChannel ∷ f places.EndList ∷ f places.Channel ∷ []) h .1 .1 .0
-at-each-place f h places.Channel = parts (f places.SourceList) (f places.SourceChannel ∷ f places.EndList ∷ f places.Channel ∷ []) h .1 .1 .1 .0
-
-at-role : (f : Role → Bool) → atRoles f ≡ true → (k : Role) → f k ≡ true
-at-role f h forward = parts (f forward) (f backward ∷ f outside ∷ []) h .0
-at-role f h backward = parts (f forward) (f backward ∷ f outside ∷ []) h .1 .0
-at-role f h outside = parts (f forward) (f backward ∷ f outside ∷ []) h .1 .1 .0
-
-abbrev made : Standing → Connection → Backlog → Bool → Side
-made t c g q = record { stands = t; connection = c; backlog = g; asks = q }
-
-pub at-side : (f : Side → Bool) → atSides f ≡ true → (x : Side) → f x ≡ true
+at-side : (f : Side → Bool) → atSides f ≡ true → (x : Side) → f x ≡ true
 at-side f h x =
-    let t = x .stands in
-    let c = x .connection in
-    let g = x .backlog in
-    at-bool (λ q. f (made t c g q))
-    (at-backlog (λ g. atBools (λ q. f (made t c g q)))
-    (at-connection (λ c. atBacklogs (λ g. atBools (λ q. f (made t c g q))))
-    (at-standing (λ t. atConnections (λ c. atBacklogs (λ g. atBools (λ q. f (made t c g q))))) h t)
-    c)
-    g)
-    (x .asks)
+    let made : Bool → Bool → Bool → Connection → Backlog → Bool → Side =
+    λ i j k c g q. record { started = i; runs = j; migrates = k; link = record { connection = c; backlog = g }; asks = q } in
+    let linked : Bool → Bool → Bool → Connection → Backlog → Bool = λ i j k c g. every (λ q. f (made i j k c g q)) answers in
+    let stood : Bool → Bool → Bool → Bool = λ i j k. every (λ c. every (linked i j k c) backlogs) connections in
+    let i = x .started in
+    let j = x .runs in
+    let k = x .migrates in
+    let c = x .link .connection in
+    let one = at-answer (λ i. every (λ j. every (stood i j) answers) answers) h i in
+    let three = at-answer (stood i j) (at-answer (λ j. every (stood i j) answers) one j) k in
+    let four = at-backlog (linked i j k c) (at-connection (λ c. every (linked i j k c) backlogs) three c) (x .link .backlog) in
+    at-answer (λ q. f (made i j k c (x .link .backlog) q)) four (x .asks)
 
 -- a guarded test holds where its guard does
-pub guarded : (a b : Bool) → (elim a [ true ↦ b | false ↦ true ]) ≡ true → a ≡ true → b ≡ true
+pub guarded : (a b : Bool) → ifSo a b ≡ true → a ≡ true → b ≡ true
 guarded true b h e = h
 guarded false b h e = absurd (true≢false (sym e))
 
+-- where a computed test of every side, place, two sides or pair passes, what it says holds
+pub tested : (p q : Side → Bool) → atSides (λ x. ifSo (p x) (q x)) ≡ true → (x : Side) → p x ≡ true → q x ≡ true
+tested p q h x = guarded (p x) (q x) (at-side (λ x. ifSo (p x) (q x)) h x)
+
+pub tested-place : (f g : Place → Bool) → every (λ p. ifSo (f p) (g p)) places ≡ true → (p : Place) → f p ≡ true → g p ≡ true
+tested-place f g h p = guarded (f p) (g p) (at-place (λ p. ifSo (f p) (g p)) h p)
+
+pub tested-two : (p q : Side → Side → Bool) → atSides (λ x. atSides (λ y. ifSo (p x y) (q x y))) ≡ true
+    → (x y : Side) → p x y ≡ true → q x y ≡ true
+tested-two p q h x y = tested (p x) (q x) (at-side (λ x. atSides (λ y. ifSo (p x y) (q x y))) h x) y
+
 -- a pair that fits has a first side that fits alone
-alone-test : T (atSides (λ x. atSides (λ y. elim (pairFits x y) [ true ↦ sideFits x | false ↦ true ])))
-unfolding pairFits
-alone-test = tt
-
 alone : (x y : Side) → pairFits x y ≡ true → sideFits x ≡ true
-alone x y h =
-    guarded (pairFits x y) (sideFits x)
-    (at-side (λ y. elim (pairFits x y) [ true ↦ sideFits x | false ↦ true ])
-    (at-side (λ x. atSides (λ y. elim (pairFits x y) [ true ↦ sideFits x | false ↦ true ])) (true-of _ alone-test) x)
-    y)
-    h
+unfolding pairFits
+alone = tested-two pairFits (λ x y. sideFits x) refl
 
--- a test at every pair of sides holds at each pair that fits
-pub at-pair : (f : Side → Side → Bool) → atPairs f ≡ true → (x y : Side) → pairFits x y ≡ true → pairFits y x ≡ true → f x y ≡ true
-at-pair f h x y p q =
-    guarded (sideFits y) (f x y)
-    (at-side (λ y. elim (sideFits y) [ true ↦ f x y | false ↦ true ])
-    (guarded (sideFits x) (atSides (λ y. elim (sideFits y) [ true ↦ f x y | false ↦ true ]))
-    (at-side (λ x. elim (sideFits x) [ true ↦ atSides (λ y. elim (sideFits y) [ true ↦ f x y | false ↦ true ]) | false ↦ true ]) h x)
-    (alone x y p))
-    y)
-    (alone y x q)
+pub tested-pair : (p q : Side → Side → Bool) → atPairs (λ x y. ifSo (p x y) (q x y)) ≡ true → (x y : Side)
+    → standsSo x ≡ true → standsSo y ≡ true → pairFits x y ≡ true → pairFits y x ≡ true → p x y ≡ true → q x y ≡ true
+tested-pair p q h x y sx sy fits back =
+    let every-y : Side → Bool = λ x. atSides (λ y. ifSo (standsSo y && sideFits y) (ifSo (p x y) (q x y))) in
+    guarded (p x y) (q x y)
+    (tested (λ y. standsSo y && sideFits y) (λ y. ifSo (p x y) (q x y))
+    (tested (λ x. standsSo x && sideFits x) every-y h x (both sx (alone x y fits))) y (both sy (alone y x back)))
 
-module _ (c : Change) (kept : T (keeps c)) (k : Role) (x y : Side) (fits : given c k x y ≡ true) where
-  now : (pairFits (c .anew k x y) (c .anew (turn k) y x) && atPlaces (messageKept c k x y)) ≡ true
+-- a state's sides stand so
+pub stands : (t : Status) → standsSo (sideOf t apart false) ≡ true
+stands Unstarted = refl
+stands (Running v) = refl
+stands (Migrating v w) = refl
+stands (Ended v) = refl
+
+-- a change that keeps pairs fit keeps each, both ways, and each message of it, and the order of two
+module _ (c : Change) (kept : keeps c ≡ true) (s : State) (a b : Rank) (fits : given c (side s a b) (side s b a) ≡ true) where
+  abbrev x : Side
+  x = side s a b
+
+  abbrev y : Side
+  y = side s b a
+
+  abbrev own : Side
+  own = c .own x y
+
+  abbrev other : Side
+  other = c .other y x
+
+  abbrev messages-kept : Place → Bool
+  messages-kept p = chain (messageKept c x y p) (messagesKept c x y p)
+
+  now : (i : ℕ) → getD (pairFits own other ∷ pairFits other own ∷ every messages-kept places ∷ []) i true ≡ true
   unfolding keeps
   now =
-      let p = parts (pairFits x y) (pairFits y x ∷ c .asked k x y ∷ c .asked (turn k) y x ∷ []) fits in
-      guarded (given c k x y) (pairFits (c .anew k x y) (c .anew (turn k) y x) && atPlaces (messageKept c k x y))
-      (at-pair (pairKept c k) (at-role (λ k. atPairs (pairKept c k)) (true-of _ kept) k) x y (p .0) (p .1 .0))
-      fits
+      let before = chain-at (pairFits x y) (pairFits y x ∷ c .asked x y ∷ []) fits in
+      chain-at (pairFits own other) (pairFits other own ∷ every messages-kept places ∷ [])
+      (tested-pair (given c) (λ x y. chain (pairFits (c .own x y) (c .other y x))
+      (pairFits (c .other y x) (c .own x y) ∷ every (λ p. chain (messageKept c x y p) (messagesKept c x y p)) places ∷ []))
+      kept x y (stands (status s a)) (stands (status s b)) (before 0) (before 1) fits)
 
-  -- a change that keeps pairs fit keeps each
-  pub pair-kept : pairFits (c .anew k x y) (c .anew (turn k) y x) ≡ true
-  pair-kept = both-left (pairFits (c .anew k x y) (c .anew (turn k) y x)) (atPlaces (messageKept c k x y)) now
+  pub pair-kept : pairFits own other ≡ true
+  pair-kept = now 0
 
-  -- and each message of it
-  pub message-kept : (p : Place) → messageFits p x y ≡ true → c .askedOf k p ≡ true → messageFits (c .place k p) (c .anew k x y) (c .anew (turn k) y x) ≡ true
-  message-kept p m a =
-      guarded (messageFits p x y && c .askedOf k p) (messageFits (c .place k p) (c .anew k x y) (c .anew (turn k) y x))
-      (at-each-place (messageKept c k x y) (both-right (pairFits (c .anew k x y) (c .anew (turn k) y x)) (atPlaces (messageKept c k x y)) now) p)
-      (both m a)
+  pub pair-kept-back : pairFits other own ≡ true
+  pair-kept-back = now 1
 
--- two tests that pass at every element pass together
-pub every-and : {A : Type 0} (p q : A → Bool) (l : List A) → every p l ≡ true → every q l ≡ true → every (λ x. p x && q x) l ≡ true
-every-and p q l h k = every-both p q (λ x. p x && q x) (λ x g e. both g e) l h k
+  module _ (p : Place) where
+    there : (i : ℕ) → getD (messageKept c x y p ∷ messagesKept c x y p) i true ≡ true
+    there = chain-at (messageKept c x y p) (messagesKept c x y p) (at-place messages-kept (now 2) p)
 
--- A standing says what its status says.
+    pub message-kept : messageFits p x y ≡ true → not (c .bars p) ≡ true → messageFits (c .place p) own other ≡ true
+    message-kept m n = guarded _ (messageFits (c .place p) own other) (there 0) (both m n)
 
-pub lives-as : (t : Status) → lives (standing t) ≡ isLive t
-lives-as Unstarted = refl
-lives-as (Running v) = refl
-lives-as (Migrating v w) = refl
-lives-as (Ended v) = refl
+    pub message-kept-back : messageFits p y x ≡ true → messageFits (c .placeBack p) other own ≡ true
+    message-kept-back = guarded _ (messageFits (c .placeBack p) other own) (there 1)
 
-pub runs-as : (t : Status) → runs (standing t) ≡ isRunning t
-runs-as Unstarted = refl
-runs-as (Running v) = refl
-runs-as (Migrating v w) = refl
-runs-as (Ended v) = refl
+    module _ (q : Place) (rise : upTo p q ≡ true) where
+      pub order-kept : messageFits p x y ≡ true → messageFits q x y ≡ true → upTo (c .place p) (c .place q) ≡ true
+      order-kept m n = guarded _ (upTo (c .place p) (c .place q)) (at-place (orderKept (c .place) x y p) (there 2) q) (both (both m n) rise)
 
-pub migrates-as : (t : Status) → migrates (standing t) ≡ isMigrating t
-migrates-as Unstarted = refl
-migrates-as (Running v) = refl
-migrates-as (Migrating v w) = refl
-migrates-as (Ended v) = refl
-
-pub started-as : (t : Status) → hasStarted (standing t) ≡ isStarted t
-started-as Unstarted = refl
-started-as (Running v) = refl
-started-as (Migrating v w) = refl
-started-as (Ended v) = refl
+      pub order-kept-back : messageFits p y x ≡ true → messageFits q y x ≡ true → upTo (c .placeBack p) (c .placeBack q) ≡ true
+      order-kept-back m n =
+          guarded _ (upTo (c .placeBack p) (c .placeBack q)) (at-place (orderKept (c .placeBack) y x p) (there 3) q) (both (both m n) rise)
 
 -- every pair of a sound state fits
-pub pair-fits : (s : State) → Pairs s → (a b : Rank) → a .0 < ranks → b .0 < ranks → pairFits (side s a b) (side s b a) ≡ true
+pub pair-fits : (s : State) → Pairs s → AtPairs (λ a b. pairFits (side s a b) (side s b a))
 unfolding pairFits
 pair-fits s f a b ha hb =
-    rw (lives-as (status s a), runs-as (status s a), migrates-as (status s a), started-as (status s b))
-    (both (both (both (both (both (f .lines-belong a b ha hb) (f .plain-both-sides a b ha hb)) (f .notice-faces-none a b ha hb)) (f .awaits-belong a b ha hb)) (f .unheeded-is-notice a b ha hb)) (f .calls-fit a b ha hb))
+    both (both (both (both (both (f .lines-belong a b ha hb) (f .plain-both-sides a b ha hb)) (f .notice-faces-none a b ha hb))
+    (f .awaits-belong a b ha hb)) (f .unheeded-is-notice a b ha hb)) (f .calls-fit a b ha hb)
 
 -- a rank that has nothing with itself fits itself
-self-test : T (atSides (λ x. elim (isClosed (x .connection) && isClear (x .backlog) && not (x .asks)) [ true ↦ pairFits x x | false ↦ true ]))
+self-fits : (x : Side) → nothing x ≡ true → pairFits x x ≡ true
 unfolding pairFits
-self-test = tt
-
-self-fits : (x : Side) → (isClosed (x .connection) && isClear (x .backlog) && not (x .asks)) ≡ true → pairFits x x ≡ true
-self-fits x h =
-    guarded (isClosed (x .connection) && isClear (x .backlog) && not (x .asks)) (pairFits x x)
-    (at-side (λ x. elim (isClosed (x .connection) && isClear (x .backlog) && not (x .asks)) [ true ↦ pairFits x x | false ↦ true ]) (true-of _ self-test) x)
-    h
-
--- every pair of two ranks fits
-abbrev pub PairsFit : State → Type 0
-PairsFit s = (a b : Rank) → a .0 < ranks → b .0 < ranks → sameRank a b ≡ false → pairFits (side s a b) (side s b a) ≡ true
-
-abbrev pub nothingWith : State → Rank → Bool
-nothingWith s r = isClosed (connection s r r) && isClear (backlog s r r) && not (asksFor r (request s r))
-
--- the clauses of soundness about a pair, in order
-abbrev lineBelongs : State → Rank → Rank → Bool
-lineBelongs s a b = isClosed (connection s a b) || isLive (status s a)
-
-abbrev laterClauses : State → Rank → Rank → List Bool
-laterClauses s a b =
-    (not (isOpen (connection s a b)) || isOpen (connection s b a)) ∷
-    (not (isClosing (connection s a b)) || isClosed (connection s b a)) ∷
-    (isClear (backlog s a b) || isMigrating (status s a) && isStarted (status s b)) ∷
-    Bool·beq (isUnheeded (backlog s a b)) (isClosing (connection s b a)) ∷
-    (not (asksFor b (request s a)) ||
-    isRunning (status s a) && isStarted (status s b) && isClosed (connection s a b)) ∷ []
+self-fits = tested nothing (λ x. pairFits x x) refl
 
 -- where every pair of two ranks fits and nobody has anything with itself, the pairs are sound
-module _ (s : State) (self : AtRanks (nothingWith s)) (fit : PairsFit s) where
-  fits-all : (a b : Rank) → a .0 < ranks → b .0 < ranks → pairFits (side s a b) (side s b a) ≡ true
-  fits-all a b ha hb = at (sameRank a b) refl
-    where
-      at : (t : Bool) → sameRank a b ≡ t → pairFits (side s a b) (side s b a) ≡ true
-      at true e = rw (sym (sameRank-eq a b e)) (self-fits (side s a a) (self a ha))
-      at false e = fit a b ha hb e
+module _ (s : State) (self : AtRanks (λ r. nothing (side s r r)))
+    (fit : (a b : Rank) → a .0 < ranks → b .0 < ranks → sameRank a b ≡ false → pairFits (side s a b) (side s b a) ≡ true)
+  where
+    fits-all : AtPairs (λ a b. pairFits (side s a b) (side s b a))
+    fits-all a b ha hb =
+        by-test (sameRank a b) (λ e. rw (← sameRank-eq a b e) (self-fits (side s a a) (self a ha))) (fit a b ha hb)
 
-  clauses : (a b : Rank) → a .0 < ranks → b .0 < ranks → (lineBelongs s a b ≡ true) × AllTrue (laterClauses s a b)
-  unfolding pairFits
-  clauses a b ha hb =
-      parts (lineBelongs s a b) (laterClauses s a b)
-      (rw (lives-as (status s a), runs-as (status s a), migrates-as (status s a), started-as (status s b)) at (fits-all a b ha hb))
+    clause : (i : ℕ) → AtPairs (λ a b. getD (lineBelongs (side s a b) ∷ pairClauses (side s a b) (side s b a)) i true)
+    unfolding pairFits
+    clause i a b ha hb = chain-at (lineBelongs (side s a b)) (pairClauses (side s a b) (side s b a)) (fits-all a b ha hb) i
 
-  pub pairs-from-fits : Pairs s
-  pairs-from-fits =
-      record {
-        nothing-with-self = self;
-        lines-belong = λ a b ha hb. clauses a b ha hb .0;
-        plain-both-sides = λ a b ha hb. clauses a b ha hb .1 .0;
-        notice-faces-none = λ a b ha hb. clauses a b ha hb .1 .1 .0;
-        awaits-belong = λ a b ha hb. clauses a b ha hb .1 .1 .1 .0;
-        unheeded-is-notice = λ a b ha hb. clauses a b ha hb .1 .1 .1 .1 .0;
-        calls-fit = λ a b ha hb. clauses a b ha hb .1 .1 .1 .1 .1 .0;
-      }
+    pub pairs-from-fits : Pairs s
+    pairs-from-fits =
+        record {
+          nothing-with-self = self;
+          lines-belong = clause 0;
+          plain-both-sides = clause 1;
+          notice-faces-none = clause 2;
+          awaits-belong = clause 3;
+          unheeded-is-notice = clause 4;
+          calls-fit = clause 5;
+        }
 
--- a message that is named well and fits the view of its pair
+-- a message that fits the view of its pair: its ends, and its place twice
 abbrev pub fits : State → Message → Bool
 fits s m = messageFits (m .place) (side s (m .receiver) (m .sender)) (side s (m .sender) (m .receiver))
 
-fits-as : (s : State) (m : Message) → fits s m ≡ (hasEnds s m && fitsUnheeded s m && fitsPlace s m)
-unfolding messageFits
-fits-as s m = rw (started-as (status s (m .sender)), lives-as (status s (m .receiver)), migrates-as (status s (m .receiver)))
-
 -- every message of a sound state fits
 pub messages-fit : (s : State) → Mail s → every (fits s) (messages s) ≡ true
+unfolding messageFits
 messages-fit s f =
-    every-wider (λ m. hasEnds s m && fitsUnheeded s m && fitsPlace s m) (fits s) (λ m h. fits-as s m ∙ h) (messages s)
-    (every-and (λ m. hasEnds s m && fitsUnheeded s m) (fitsPlace s) (messages s)
-    (every-and (hasEnds s) (fitsUnheeded s) (messages s) (f .ends-fit) (f .unheeded-places))
-    (f .places-fit))
+    every-and (λ m. hasEnds s m && fitsUnheeded s m) (fitsPlace s) (messages s)
+    (every-and (hasEnds s) (fitsUnheeded s) (messages s) (f .ends-fit) (f .unheeded-places)) (f .places-fit)
 
 module _ (s : State) (l : List Message) (h : every (fits s) l ≡ true) where
+  first-two : every (λ m. hasEnds s m && fitsUnheeded s m) l ≡ true
+  unfolding messageFits
+  first-two = every-wider (fits s) (λ m. hasEnds s m && fitsUnheeded s m) (λ m. both-left _ (fitsPlace s m)) l h
+
   pub ends-from-fits : every (hasEnds s) l ≡ true
-  ends-from-fits =
-      every-wider (fits s) (hasEnds s)
-      (λ m e. both-left _ _ (both-left (hasEnds s m && fitsUnheeded s m) (fitsPlace s m) (sym (fits-as s m) ∙ e)))
-      l h
+  ends-from-fits = every-wider _ (hasEnds s) (λ m. both-left (hasEnds s m) (fitsUnheeded s m)) l first-two
 
   pub unheeded-from-fits : every (fitsUnheeded s) l ≡ true
-  unheeded-from-fits =
-      every-wider (fits s) (fitsUnheeded s)
-      (λ m e. both-right (hasEnds s m) (fitsUnheeded s m) (both-left (hasEnds s m && fitsUnheeded s m) (fitsPlace s m) (sym (fits-as s m) ∙ e)))
-      l h
+  unheeded-from-fits = every-wider _ (fitsUnheeded s) (λ m. both-right (hasEnds s m) (fitsUnheeded s m)) l first-two
 
   pub places-from-fits : every (fitsPlace s) l ≡ true
-  places-from-fits =
-      every-wider (fits s) (fitsPlace s)
-      (λ m e. both-right (hasEnds s m && fitsUnheeded s m) (fitsPlace s m) (sym (fits-as s m) ∙ e))
-      l h
+  unfolding messageFits
+  places-from-fits = every-wider (fits s) (fitsPlace s) (λ m. both-right (hasEnds s m && fitsUnheeded s m) (fitsPlace s m)) l h

@@ -12,7 +12,6 @@ use Rattle.transit.specs.declared.Rank.{Rank}
 use Rattle.broker.specs.Checks.{refusal}
 use Rattle.broker.specs.Laws.Fit.{ends-from-fits, unheeded-from-fits, places-from-fits}
 use Rattle.broker.specs.Laws.Kept.Names.{names-kept}
-use Rattle.broker.specs.Laws.Kept.Order.{order-kept}
 use Rattle.broker.specs.Laws.Kept.Shape.{shape-kept}
 use Rattle.broker.specs.Laws.Kept.Views.{views-kept}
 use Rattle.broker.specs.Laws.Sound.{Facts, facts, of-facts}
@@ -25,7 +24,7 @@ facts-kept : (named : Rank) (s : State) (r : Record) → Facts s → refusal s r
 facts-kept named s r f p =
     let after = apply named r s .state in
     let views = views-kept named s r f p in
-    let order = order-kept named s r f p in
+    let order = views .order in
     record {
       shape = shape-kept named s r (f .shape);
       names = names-kept named s r f p;
@@ -35,10 +34,10 @@ facts-kept named s r f p =
             few = order .few;
             counted = order .counted;
             named = order .named;
+            places-rise = order .places-rise;
             ends-fit = ends-from-fits after (messages after) (views .placed);
             unheeded-places = unheeded-from-fits after (messages after) (views .placed);
             places-fit = places-from-fits after (messages after) (views .placed);
-            places-rise = order .places-rise;
           };
     }
 

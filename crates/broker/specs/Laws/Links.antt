@@ -1,57 +1,61 @@
--- Laws of links: what a changed line, a changed await, both lines of a pair, and a move leave at each pair of ranks.
--- Assumes nothing.
-use mathlib.Core.Path.{_≡_, refl, sym, ap, _∙_}
-use mathlib.Core.Bool.{Bool, true, false, cond, _&&_}
+-- Laws of links: what one link changed, and both links of a pair changed, leave at each pair of ranks. Assumes nothing.
+use mathlib.Core.Path.{_≡_, refl, _∙_}
+use mathlib.Core.Bool.{Bool, true, false, cond, _&&_, and-comm}
 use mathlib.Core.List.{List}
-use Prim.Native.Nat.{ℕ, _<_}
+use Prim.Native.Nat.{_<_}
 use lib.ListN.{length, length-set}
-use Rattle.base.specs.Laws.Tests.{both-left, both-right}
-use Rattle.transit.specs.Message.{sameRank, ranks, cells}
+use Rattle.base.specs.Laws.Tests.{by-test, both-left, both-right, fails-right}
+use Rattle.transit.specs.Message.{sameRank, to, between, ranks, cells}
+use Rattle.transit.specs.declared.Message.{Message}
 use Rattle.transit.specs.declared.Rank.{Rank}
-use Rattle.broker.specs.State.{connect, await, cell, linkAt, setLink}
-use Rattle.broker.specs.Laws.State.{link-set, sameRank-eq}
-use Rattle.broker.specs.declared.link.Backlog.{Backlog}
-use Rattle.broker.specs.declared.link.Connection.{Connection}
+use Rattle.broker.specs.Laws.State.{link-set, sameRank-eq, sameRank-turned, other-rank}
+use Rattle.broker.specs.State.{linkAt, setLink}
 use Rattle.broker.specs.declared.link.Link.{Link}
 
-pub connect-long : (ls : List Link) (p q : Rank) (c : Connection) → length ls ≡ cells → length (connect p q c ls) ≡ cells
-connect-long ls p q c n = simp length-set n
+-- a and b are p and q: of a message's receiver and sender what `between` says of the message
+abbrev pub samePair : Rank → Rank → Rank → Rank → Bool
+samePair p q a b = sameRank b q && sameRank a p
 
--- both ranks are the same
-same-pair : (a b p q : Rank) → (sameRank a p && sameRank b q) ≡ true → (ls : List Link) → linkAt ls a b ≡ linkAt ls p q
-same-pair a b p q e ls =
-    ap (λ (r : Rank). linkAt ls r b) (sameRank-eq a p (both-left (sameRank a p) (sameRank b q) e)) ∙
-    ap (linkAt ls p) (sameRank-eq b q (both-right (sameRank a p) (sameRank b q) e))
+-- what holds of p and q holds of a pair that is p and q
+pub of-pair : (P : Rank → Rank → Type 0) {p q : Rank} (a b : Rank) → P p q → samePair p q a b ≡ true → P a b
+of-pair P {p} {q} a b h e = rw (sameRank-eq a p (both-right (sameRank b q) _ e), sameRank-eq b q (both-left _ _ e)) h
 
-module _ (ls : List Link) (p q : Rank) (n : length ls ≡ cells) (hp : p .0 < ranks) (hq : q .0 < ranks) (a b : Rank) (hb : b .0 < ranks) where
-  -- a line that is set is set there, and everywhere else stands as it stood
-  pub connect-connection : (c : Connection) → linkAt (connect p q c ls) a b .connection ≡ cond (sameRank a p && sameRank b q) c (linkAt ls a b .connection)
-  connect-connection c = at (sameRank a p && sameRank b q) (link-set ls p q a b (record { connection = c; backlog = linkAt ls p q .backlog }) n hp hq hb)
+-- a message of a pair is from its sender and to its receiver
+pub sender-of : (a b : Rank) (m : Message) → between a b m ≡ true → m .sender ≡ a
+sender-of a b m h = sameRank-eq (m .sender) a (both-left (sameRank (m .sender) a) (to b m) h)
+
+pub receiver-of : (a b : Rank) (m : Message) → between a b m ≡ true → m .receiver ≡ b
+receiver-of a b m h = sameRank-eq (m .receiver) b (both-right (sameRank (m .sender) a) (to b m) h)
+
+-- no pair is p and q both ways round where they differ, and no rank is both
+pub pair-once : (p q : Rank) → sameRank p q ≡ false → (a b : Rank) → samePair p q a b ≡ true → samePair p q b a ≡ false
+pair-once p q d a b e = fails-right (sameRank a q) (other-rank b q p (sameRank-turned p q d) (both-left (sameRank b q) _ e))
+
+pub not-twice : (p q x : Rank) → sameRank p q ≡ false → samePair p q x x ≡ false
+not-twice p q x d = by-test (sameRank x p) (λ e. rw (other-rank x p q d e)) (λ e. fails-right (sameRank x q) e)
+
+module _ (p q : Rank) (hp : p .0 < ranks) (hq : q .0 < ranks) (ls : List Link) (long : length ls ≡ cells) (f : Link → Link) where
+  abbrev changed : List Link
+  changed = setLink ls p q (f (linkAt ls p q))
+
+  -- one link changed
+  pub link-changed : (a b : Rank) → b .0 < ranks → linkAt changed a b ≡ cond (samePair p q a b) (f (linkAt ls a b)) (linkAt ls a b)
+  link-changed a b hb =
+      rw (link-set ls p q a b (f (linkAt ls p q)) long hp hq hb, and-comm (sameRank a p) (sameRank b q))
+      (by-test (samePair p q a b)
+      (λ e. rw e (of-pair (λ x y. f (linkAt ls p q) ≡ f (linkAt ls x y)) a b refl e)) (λ e. rw e))
+
+  -- and then the link the other way
+  pub both-changed : (g : Link → Link) → sameRank p q ≡ false → (a b : Rank) → a .0 < ranks → b .0 < ranks
+      → linkAt (setLink changed q p (g (linkAt changed q p))) a b
+      ≡ cond (samePair p q a b) (f (linkAt ls a b)) (cond (samePair p q b a) (g (linkAt ls a b)) (linkAt ls a b))
+  both-changed g d a b ha hb =
+      link-changed′ ∙
+      rw (link-changed a b hb, and-comm (sameRank b p) (sameRank a q))
+      (by-test (samePair p q a b) (λ e. rw (e, pair-once p q d a b e)) (λ e. rw e))
     where
-      at : (t : Bool) → linkAt (connect p q c ls) a b ≡ cond t (record { connection = c; backlog = linkAt ls p q .backlog }) (linkAt ls a b) → linkAt (connect p q c ls) a b .connection ≡ cond t c (linkAt ls a b .connection)
-      at true e = ap (λ (l : Link). l .connection) e
-      at false e = ap (λ (l : Link). l .connection) e
-
-  -- and no await changes
-  pub connect-backlog : (c : Connection) → linkAt (connect p q c ls) a b .backlog ≡ linkAt ls a b .backlog
-  connect-backlog c = at (sameRank a p && sameRank b q) refl (link-set ls p q a b (record { connection = c; backlog = linkAt ls p q .backlog }) n hp hq hb)
-    where
-      at : (t : Bool) → (sameRank a p && sameRank b q) ≡ t → linkAt (connect p q c ls) a b ≡ cond t (record { connection = c; backlog = linkAt ls p q .backlog }) (linkAt ls a b) → linkAt (connect p q c ls) a b .backlog ≡ linkAt ls a b .backlog
-      at true g e = ap (λ (l : Link). l .backlog) e ∙ ap (λ (l : Link). l .backlog) (sym (same-pair a b p q g ls))
-      at false g e = ap (λ (l : Link). l .backlog) e
-
-  -- an await that is set is set there, and everywhere else stands as it stood
-  pub await-backlog : (g : Backlog) → linkAt (await p q g ls) a b .backlog ≡ cond (sameRank a p && sameRank b q) g (linkAt ls a b .backlog)
-  await-backlog g = at (sameRank a p && sameRank b q) (link-set ls p q a b (record { connection = linkAt ls p q .connection; backlog = g }) n hp hq hb)
-    where
-      at : (t : Bool) → linkAt (await p q g ls) a b ≡ cond t (record { connection = linkAt ls p q .connection; backlog = g }) (linkAt ls a b) → linkAt (await p q g ls) a b .backlog ≡ cond t g (linkAt ls a b .backlog)
-      at true e = ap (λ (l : Link). l .backlog) e
-      at false e = ap (λ (l : Link). l .backlog) e
-
-  -- and no line changes
-  pub await-connection : (g : Backlog) → linkAt (await p q g ls) a b .connection ≡ linkAt ls a b .connection
-  await-connection g = at (sameRank a p && sameRank b q) refl (link-set ls p q a b (record { connection = linkAt ls p q .connection; backlog = g }) n hp hq hb)
-    where
-      at : (t : Bool) → (sameRank a p && sameRank b q) ≡ t → linkAt (await p q g ls) a b ≡ cond t (record { connection = linkAt ls p q .connection; backlog = g }) (linkAt ls a b) → linkAt (await p q g ls) a b .connection ≡ linkAt ls a b .connection
-      at true e g = ap (λ (l : Link). l .connection) g ∙ ap (λ (l : Link). l .connection) (sym (same-pair a b p q e ls))
-      at false e g = ap (λ (l : Link). l .connection) g
+      link-changed′ : linkAt (setLink changed q p (g (linkAt changed q p))) a b ≡ cond (samePair q p a b) (g (linkAt changed a b)) (linkAt changed a b)
+      link-changed′ =
+          rw (link-set changed q p a b (g (linkAt changed q p)) (simp length-set long) hq hp hb, and-comm (sameRank a q) (sameRank b p))
+          (by-test (samePair q p a b)
+          (λ e. rw e (of-pair (λ x y. g (linkAt changed q p) ≡ g (linkAt changed x y)) a b refl e)) (λ e. rw e))

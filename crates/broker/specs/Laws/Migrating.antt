@@ -6,6 +6,7 @@ use mathlib.Core.List.{List, [], _∷_}
 use mathlib.Core.Option.{none}
 use Prim.Native.Nat.{_<_}
 use lib.ListN.{getD}
+use Rattle.base.specs.Laws.Stores.{store-unseen}
 use Rattle.base.specs.Laws.Tests.{by-test, not-both}
 use Rattle.transit.specs.Message.{sameRank, ranks}
 use Rattle.transit.specs.declared.Rank.{Rank}
@@ -15,16 +16,18 @@ use Rattle.broker.specs.Kind
 use Rattle.broker.specs.Laws.Accepted.{start-fits, move-fits, land-fits, end-fits, running-not-migrating}
 use Rattle.broker.specs.Laws.Cases.{drain-cases}
 use Rattle.broker.specs.Laws.Sound.{facts}
-use Rattle.broker.specs.Laws.Standings.{standings, standing-at, standings-with-status, standings-with-request, call-unseen, route-unseen}
-use Rattle.broker.specs.Laws.State.{status-with}
+use Rattle.broker.specs.Laws.Standings.{standings, standing-at, standings-with-status, standings-with-request, call-unseen}
+use Rattle.broker.specs.Laws.Standings.{route-unseen}
+use Rattle.broker.specs.Laws.State.{status-with, status-with-request}
 use Rattle.broker.specs.Life.{start, end}
-use Rattle.broker.specs.State.{nextVmid, State, status, withStatus}
+use Rattle.broker.specs.State.{nextVmid, State, idle, status, withStatus}
 use Rattle.broker.specs.Messages.{send, take, look}
 use Rattle.broker.specs.Migrate.{move, heed, land}
 use Rattle.broker.specs.Names.{endpoint, isStarted, isMigrating}
 use Rattle.broker.specs.Record.{firstRank}
 use Rattle.broker.specs.Sound.{sound}
 use Rattle.broker.specs.Step.{apply}
+use Rattle.broker.specs.declared.process.Process.{Process}
 use Rattle.broker.specs.declared.process.Status.{Status}
 use Rattle.broker.specs.declared.process.Status.the-variants.{Unstarted, Running, Migrating, Ended}
 use Rattle.broker.specs.declared.record.Record.{Record}
@@ -36,10 +39,6 @@ openAfter r before x =
     cond (is (Kind.move ∷ []) x && sameRank r (firstRank x)) true
     (cond (is (Kind.land ∷ []) x && sameRank r (firstRank x)) false before)
 
-same-movers : (s t : State) (r : Rank) → standings isMigrating t ≡ standings isMigrating s → isMigrating (status t r) ≡ isMigrating (status s r)
-same-movers s t r e =
-    sym (standing-at isMigrating t r) ∙ ap (λ (l : List Bool). getD l (r .0) false) e ∙ standing-at isMigrating s r
-
 unstarted-not-migrating : (t : Status) → isStarted t ≡ false → isMigrating t ≡ false
 unstarted-not-migrating Unstarted h = refl
 unstarted-not-migrating (Running v) h = refl
@@ -47,24 +46,27 @@ unstarted-not-migrating (Migrating v w) h = absurd (not-both refl h)
 unstarted-not-migrating (Ended v) h = refl
 
 -- The rank of an accepted record comes to stand so.
-module _ (s y : State) (p : Rank) (t : Status) (h : sound s ≡ true) (hp : p .0 < ranks) (same : y .processes ≡ withStatus p t s .processes) where
-  migrates-as : (r : Rank) → isMigrating (status y r) ≡ cond (sameRank r p) (isMigrating t) (isMigrating (status s r))
-  migrates-as r =
-      rw (same, status-with s p r t (facts s h .shape .processes-long) hp)
-      (by-test (sameRank r p) (λ e. rw e) (λ e. rw e))
+migrates-as : (s y : State) (p : Rank) (t : Status) → sound s ≡ true → p .0 < ranks → y .processes ≡ withStatus p t s .processes
+    → (r : Rank) → isMigrating (status y r) ≡ cond (sameRank r p) (isMigrating t) (isMigrating (status s r))
+migrates-as s y p t h hp same r =
+    rw (same, status-with s p r t (facts s h .shape .processes-long) hp) (by-test (sameRank r p) (λ e. rw e) (λ e. rw e))
 
-pub migrating-step : (named : Rank) (s : State) (x : Record) (r : Rank) → sound s ≡ true → refusal s x ≡ none → isMigrating (status (apply named x s .state) r) ≡ openAfter r (isMigrating (status s r)) x
+-- It stands otherwise, and migrates no more and no less.
+migrates-still : (s : State) (p : Rank) (t : Status) → isMigrating t ≡ isMigrating (status s p)
+    → (r : Rank) → isMigrating (status (withStatus p t s) r) ≡ isMigrating (status s r)
+migrates-still s p t e r = store-unseen (λ (q : Process). isMigrating (q .status)) (s .processes) (p .0) (r .0) _ idle e
+
+pub migrating-step : (named : Rank) (s : State) (x : Record) (r : Rank) → sound s ≡ true → refusal s x ≡ none
+    → isMigrating (status (apply named x s .state) r) ≡ openAfter r (isMigrating (status s r)) x
 unfolding apply start send take move heed land part end look
 migrating-step named s (Start p h) r sd k =
     let f = start-fits s p h k in
-    same-movers s (start p h s .state) r
-    (standings-with-status isMigrating s p (Running (nextVmid s h)) (sym (unstarted-not-migrating (status s p) (f .unstarted))))
+    migrates-still s p (Running (nextVmid s h)) (sym (unstarted-not-migrating (status s p) (f .unstarted))) r
 migrating-step named s (Call a b) r sd k =
-    same-movers s (call a b s .state) r
-    (call-unseen (standings isMigrating) (standings-with-request isMigrating) (λ t ls. refl) (λ t vs. refl) a b s)
+    call-unseen (λ t. isMigrating (status t r)) (λ t p q. ap isMigrating (status-with-request t p r q)) a b s
 migrating-step named s (Route a b) r sd k =
-    same-movers s (route a b s .state) r
-    (route-unseen (standings isMigrating) (standings-with-request isMigrating) (λ t ls. refl) (λ t vs. refl) a b s)
+    let see : State → Bool = λ t. isMigrating (status t r) in
+    route-unseen see (λ t p q. ap isMigrating (status-with-request t p r q)) (λ t ls. refl) (λ t vs. refl) a b s
 migrating-step named s (Send a b v) r sd k = refl
 migrating-step named s (Take b a) r sd k = refl
 migrating-step named s (Move p h) r sd k =
@@ -79,6 +81,5 @@ migrating-step named s (Land p) r sd k =
 migrating-step named s (Part a b) r sd k = refl
 migrating-step named s (End p) r sd k =
     let f = end-fits s p k in
-    same-movers s (end p s .state) r
-    (standings-with-status isMigrating s p (Ended (endpoint (status s p))) (sym (running-not-migrating (status s p) (f .running))))
+    migrates-still s p (Ended (endpoint (status s p))) (sym (running-not-migrating (status s p) (f .running))) r
 migrating-step named s (Look p) r sd k = refl

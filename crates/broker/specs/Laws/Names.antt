@@ -1,19 +1,18 @@
 -- Vmids: whose number is drawn, which two lists do not share, and which a standing has.
 -- Assumes nothing.
-use mathlib.Core.Path.{_≡_, refl, sym, ap, _∙_}
+use mathlib.Core.Path.{_≡_, refl, ap, _∙_}
 use mathlib.Core.Bool.{Bool, true, false, not, cond, _&&_}
 use mathlib.Core.List.{List, [], _∷_}
 use Prim.Native.Nat.{ℕ, _+_, _<_, _≤_}
-use native.Mathlib.Decide.{ℕ-discrete}
 use native.Mathlib.Omega.{arith}
-use borrow.Author.Tests.{ltb-true, lt-ltb, leb-true, le-leb, eqb-true, eq-eqb, ne-eqb}
+use borrow.Author.Tests.{ltb-true, lt-ltb, leb-true, le-leb, eqb-true, eq-eqb}
 use lib.Dec.{eqb, leb, ltb}
 use lib.ListN.{length}
-use Rattle.base.specs.Laws.Tests.{both, both-left, both-right, chosen, not-both, parts, chained}
+use Rattle.base.specs.Laws.Stores.{getD-set}
+use Rattle.base.specs.Laws.Tests.{by-test, both, both-left, both-right, chosen, not-both, parts, chained, eqb-swap}
 use Rattle.base.specs.Lists.{every}
-use Rattle.base.specs.Laws.Lists.{every-wider}
+use Rattle.base.specs.Laws.Lists.{every-swap}
 use Rattle.transit.specs.declared.Rank.{Rank}
-use Rattle.broker.specs.Laws.State.{drawn-with}
 use Rattle.broker.specs.State.{nextVmid, draw, State, drawnOn}
 use Rattle.broker.specs.Names.{hosts, sameVmid, isStarted, isEnded, endpoint, processesOf, vmidsOf}
 use Rattle.broker.specs.Sound.{isDrawn, ofCall, noneShared}
@@ -22,14 +21,6 @@ use Rattle.broker.specs.declared.process.Request.the-variants.{Absent, P
 use Rattle.broker.specs.declared.process.Status.{Status}
 use Rattle.broker.specs.declared.process.Status.the-variants.{Unstarted, Running, Migrating, Ended}
 use Rattle.broker.specs.declared.process.Vmid.{Vmid}
-
--- two numbers are compared either way round
-pub eqb-swap : (m n : ℕ) → eqb m n ≡ eqb n m
-eqb-swap m n = at (ℕ-discrete m n)
-  where
-    at : Dec (m ≡ n) → eqb m n ≡ eqb n m
-    at (yes e) = rw e
-    at (no d) = ne-eqb m n d ∙ sym (ne-eqb n m (λ e. d (sym e)))
 
 -- two vmids are the same where their hosts and numbers are, compared either way round
 pub sameVmid-eq : (v w : Vmid) → sameVmid v w ≡ true → v ≡ w
@@ -41,73 +32,38 @@ sameVmid-eq v w h =
 pub sameVmid-swap : (v w : Vmid) → sameVmid v w ≡ sameVmid w v
 sameVmid-swap v w = rw (eqb-swap (v .0) (w .0), eqb-swap (v .1) (w .1))
 
--- a test of each of one list with each of another, the other way round
-pub every-swap : {A : Type 0} (p q : A → A → Bool) → ((x y : A) → p x y ≡ true → q y x ≡ true) → (l m : List A) → every (λ x. every (p x) m) l ≡ true → every (λ y. every (q y) l) m ≡ true
-every-swap p q swap l [] h = refl
-every-swap p q swap l (y ∷ m) h =
-    both
-    (every-wider (λ x. p x y && every (p x) m) (q y) (λ x e. swap x y (both-left (p x y) (every (p x) m) e)) l h)
-    (every-swap p q swap l m (every-wider (λ x. p x y && every (p x) m) (λ x. every (p x) m) (λ x. both-right (p x y) (every (p x) m)) l h))
-
 -- what one list does not share with another, the other does not share with it
 pub noneShared-swap : (vs ws : List Vmid) → noneShared vs ws ≡ true → noneShared ws vs ≡ true
-noneShared-swap =
-    every-swap (λ v w. not (sameVmid v w)) (λ v w. not (sameVmid v w)) (λ v w h. rw (sameVmid-swap w v) h)
+noneShared-swap = every-swap (λ v w. not (sameVmid v w)) (λ v w. not (sameVmid v w)) (λ v w h. rw (sameVmid-swap w v) h)
 
--- what it says of a vmid that its number is drawn; taken from the test, and put together into it again
-pub record Drawn (s : State) (v : Vmid) : Type 0 where
-  pub host : v .0 < 8
-  pub number : 0 < v .1
-  pub given : v .1 ≤ drawnOn s (v .0)
-
-abbrev drawnClauses : State → Vmid → List Bool
-drawnClauses s v = ltb 0 (v .1) ∷ leb (v .1) (drawnOn s (v .0)) ∷ []
-
-pub drawn-of : (s : State) (v : Vmid) → isDrawn s v ≡ true → Drawn s v
-drawn-of s v h =
-    let p = parts (ltb (v .0) hosts) (drawnClauses s v) h in
-    record {
-      host = ltb-true (v .0) 8 (p .0);
-      number = ltb-true 0 (v .1) (p .1 .0);
-      given = leb-true (v .1) (drawnOn s (v .0)) (p .1 .1 .0);
-    }
-
-pub of-drawn : (s : State) (v : Vmid) → Drawn s v → isDrawn s v ≡ true
-of-drawn s v d =
-    chained (ltb (v .0) hosts) (drawnClauses s v) (lt-ltb (v .0) 8 (d .host))
-    (lt-ltb 0 (v .1) (d .number), (le-leb (v .1) (drawnOn s (v .0)) (d .given), tt))
+-- a vmid that is drawn has a number up to the last that is drawn on its host
+drawn-number : (s : State) (v : Vmid) → isDrawn s v ≡ true → v .1 ≤ drawnOn s (v .0)
+drawn-number s v d = leb-true (v .1) (drawnOn s (v .0)) (both-right (ltb (v .0) hosts && ltb 0 (v .1)) _ d)
 
 -- a host's next vmid is none of those that are drawn
 pub next-apart : (s : State) (h : ℕ) (w : Vmid) → isDrawn s w ≡ true → not (sameVmid (nextVmid s h) w) ≡ true
-next-apart s h w d = at (sameVmid (nextVmid s h) w) refl
-  where
-    at : (b : Bool) → sameVmid (nextVmid s h) w ≡ b → not b ≡ true
-    at true e =
-        let p = drawn-of s (nextVmid s h) (ap (isDrawn s) (sameVmid-eq (nextVmid s h) w e) ∙ d) in
-        absurd (omega arith)
-    at false e = refl
+next-apart s h w d =
+    by-test (sameVmid (nextVmid s h) w)
+    (λ e. let p = drawn-number s (nextVmid s h) (ap (isDrawn s) (sameVmid-eq (nextVmid s h) w e) ∙ d) in absurd (omega arith)) (λ e. rw e)
 
 -- when one more number is drawn on a host: what was drawn stays so, and the next vmid is drawn then
 module _ (s : State) (h : ℕ) (long : length (s .drawn) ≡ hosts) (host : h < 8) where
   pub drawn-after : (k : ℕ) → drawnOn (draw h s) k ≡ cond (eqb k h) (drawnOn s h + 1) (drawnOn s k)
-  drawn-after k = drawn-with s h k (drawnOn s h + 1) long host
+  drawn-after k = getD-set (s .drawn) h k (drawnOn s h + 1) 0 (rw long host)
 
   pub still-drawn : (v : Vmid) → isDrawn s v ≡ true → isDrawn (draw h s) v ≡ true
-  still-drawn v d = of-drawn (draw h s) v (record { host = p .host; number = p .number; given = rw (drawn-after (v .0)) more })
-    where
-      p : Drawn s v
-      p = drawn-of s v d
-
-      more : v .1 ≤ cond (eqb (v .0) h) (drawnOn s h + 1) (drawnOn s (v .0))
-      more =
-          chosen (λ (m : ℕ). v .1 ≤ m) (eqb (v .0) h) (drawnOn s h + 1) (drawnOn s (v .0))
-          (λ e. let g = rw (eqb-true (v .0) h e) at (p .given) in omega arith)
-          (λ _. p .given)
+  still-drawn v d =
+      let number = drawn-number s v d in
+      both (both-left (ltb (v .0) hosts && ltb 0 (v .1)) _ d)
+      (le-leb (v .1) (drawnOn (draw h s) (v .0))
+      (rw (drawn-after (v .0))
+      (chosen (λ (m : ℕ). v .1 ≤ m) (eqb (v .0) h) (drawnOn s h + 1) (drawnOn s (v .0))
+      (λ e. let g = rw (eqb-true (v .0) h e) at number in omega arith) (λ _. number))))
 
   pub next-drawn : isDrawn (draw h s) (nextVmid s h) ≡ true
   next-drawn =
-      of-drawn (draw h s) (nextVmid s h)
-      (record { host = host; number = omega arith; given = rw (drawn-after h, eq-eqb h h refl) (omega arith) })
+      both (both (lt-ltb h hosts host) (lt-ltb 0 (drawnOn s h + 1) (omega arith)))
+      (le-leb (drawnOn s h + 1) (drawnOn (draw h s) h) (rw (drawn-after h, eq-eqb h h refl) (omega arith)))
 
 -- the current end is among a standing's vmids
 pub endpoint-in : (p : Vmid → Bool) (t : Status) → isStarted t ≡ true → every p (vmidsOf t) ≡ true → p (endpoint t) ≡ true
@@ -130,6 +86,7 @@ processes-all (Migrating v w) h = refl
 processes-all (Ended v) h = absurd (not-both refl h)
 
 -- a wider test of vmids passes where a narrower does: of a call's vmid
-pub ofCall-wider : (f : Rank → Bool) (p q : Vmid → Bool) → ((v : Vmid) → p v ≡ true → q v ≡ true) → (c : Request) → ofCall f p c ≡ true → ofCall f q c ≡ true
+pub ofCall-wider : (f : Rank → Bool) (p q : Vmid → Bool) → ((v : Vmid) → p v ≡ true → q v ≡ true)
+    → (c : Request) → ofCall f p c ≡ true → ofCall f q c ≡ true
 ofCall-wider f p q wider Absent h = h
 ofCall-wider f p q wider (Posted b v) h = both (both-left (f b) (p v) h) (wider v (both-right (f b) (p v) h))

@@ -3,24 +3,22 @@
 -- Assumes nothing.
 use mathlib.Core.Path.{_≡_, refl, ap, _∙_}
 use mathlib.Core.Bool.{Bool, true, false, cond, _&&_}
-use Prim.Native.Nat.{ℕ, zero, suc, _<_, _≤_}
-use native.Mathlib.Omega.{arith}
+use Prim.Native.Nat.{ℕ, _<_}
 use borrow.Author.Tests.{eq-eqb}
-use lib.ListN.{length}
-use Rattle.base.specs.Laws.Tests.{by-test}
+use lib.ListN.{length, length-set}
+use Rattle.base.specs.Laws.Tests.{by-test, same-either}
 use Rattle.transit.specs.Message.{sameRank, rank, ranks, cells}
 use Rattle.transit.specs.declared.Rank.{Rank}
 use Rattle.broker.specs.State.{connect, nextVmid, State, linkAt, status, request, location, withStatus, withRequest, withLinks}
 use Rattle.broker.specs.Connect.{connectBoth, call, route, part, routeOn}
 use Rattle.base.specs.Laws.Stores.{long-set}
-use Rattle.broker.specs.Laws.Links.{connect-long}
 use Rattle.broker.specs.Laws.State.{sameRank-self, link-set, status-with, request-with-status, request-with, status-with-request}
 use Rattle.broker.specs.Life.{start, end}
 use Rattle.broker.specs.Messages.{send, take}
 use Rattle.broker.specs.Migrate.{move, land, leave, leaveAll}
 use Rattle.broker.specs.Names.{sameVmid, endpoint, isMigrating, isEnded}
 use Rattle.broker.specs.Ranks.{eachRank}
-use Rattle.base.specs.Below.{eachBelow}
+use Rattle.base.specs.Laws.Below.{eachBelow-fixed}
 use Rattle.broker.specs.Sound.{sound}
 use Rattle.broker.specs.declared.link.Backlog.the-variants.{Clear}
 use Rattle.broker.specs.declared.link.Connection.{Connection}
@@ -57,7 +55,8 @@ abbrev pub changedAt : {A : Type 0} → Rank → Rank → A → (Rank → Rank �
 changedAt r s v f p q = cond (sameRank p r && sameRank q s) v (f p q)
 
 -- The same state in other words.
-pub calm-as : {x : State} {m m′ : Rank → Bool} {q q′ : Rank → Request} {l l′ : Rank → Rank → Connection} → Calm x m q l → ((r : Rank) → m r ≡ m′ r) → ((r : Rank) → q r ≡ q′ r) → ((a b : Rank) → l a b ≡ l′ a b) → Calm x m′ q′ l′
+pub calm-as : {x : State} {m m′ : Rank → Bool} {q q′ : Rank → Request} {l l′ : Rank → Rank → Connection} → Calm x m q l
+    → ((r : Rank) → m r ≡ m′ r) → ((r : Rank) → q r ≡ q′ r) → ((a b : Rank) → l a b ≡ l′ a b) → Calm x m′ q′ l′
 calm-as c em eq el =
     record {
       processes-long = c .processes-long;
@@ -86,9 +85,11 @@ module _ {x : State} {m : Rank → Bool} {q : Rank → Request} {l : Rank → Ra
       record {
         processes-long = long-set ranks (x .processes) (r .0) _ (c .processes-long);
         links-long = c .links-long;
-        migrating = λ p hp. rw (status-with x r p t (c .processes-long) hr) (by-test (sameRank p r) (λ e. rw e) (λ e. rw e (c .migrating p hp)));
-        requests = λ p hp. request-with-status x r p t (c .processes-long) hr ∙ c .requests p hp;
         links = c .links;
+        migrating =
+            λ p hp.
+            rw (status-with x r p t (c .processes-long) hr) (by-test (sameRank p r) (λ e. rw e) (λ e. rw e (c .migrating p hp)));
+        requests = λ p hp. request-with-status x r p t ∙ c .requests p hp;
       }
 
   calm-request : (r : Rank) (t : Request) → r .0 < ranks → Calm (withRequest r t x) m (changed r t q) l
@@ -96,16 +97,19 @@ module _ {x : State} {m : Rank → Bool} {q : Rank → Request} {l : Rank → Ra
       record {
         processes-long = long-set ranks (x .processes) (r .0) _ (c .processes-long);
         links-long = c .links-long;
-        migrating = λ p hp. ap isMigrating (status-with-request x r p t (c .processes-long) hr) ∙ c .migrating p hp;
-        requests = λ p hp. rw (request-with x r p t (c .processes-long) hr) (by-test (sameRank p r) (λ e. rw e) (λ e. rw e (c .requests p hp)));
         links = c .links;
+        migrating = λ p hp. ap isMigrating (status-with-request x r p t) ∙ c .migrating p hp;
+        requests =
+            λ p hp.
+            rw (request-with x r p t (c .processes-long) hr) (by-test (sameRank p r) (λ e. rw e) (λ e. rw e (c .requests p hp)));
       }
 
-  calm-connect : (r p : Rank) (t : Connection) → r .0 < ranks → p .0 < ranks → Calm (withLinks (connect r p t (x .links)) x) m q (changedAt r p t l)
+  calm-connect : (r p : Rank) (t : Connection) → r .0 < ranks → p .0 < ranks
+      → Calm (withLinks (connect r p t (x .links)) x) m q (changedAt r p t l)
   calm-connect r p t hr hp =
       record {
         processes-long = c .processes-long;
-        links-long = connect-long (x .links) r p t (c .links-long);
+        links-long = simp length-set (c .links-long);
         migrating = c .migrating;
         requests = c .requests;
         links =
@@ -131,20 +135,6 @@ pub record Quiet (x : State) : Type 0 where
   pub is-sound : sound x ≡ true
   pub calm : AllQuiet x
 
--- Where both values are one, a test chooses it.
-same-either : {A : Type 0} (b : Bool) (v : A) → cond b v v ≡ v
-same-either true v = refl
-same-either false v = refl
-
--- What changes nothing at each rank changes nothing.
-eachRank-fixed : {A : Type 0} (f : Rank → A → A) (x : A) → ((r : Rank) → r .0 < ranks → f r x ≡ x) → eachRank f x ≡ x
-unfolding eachRank
-eachRank-fixed f x fixed = go ranks (omega arith)
-  where
-    go : (n : ℕ) → n ≤ ranks → eachBelow n (λ k. f (rank k)) x ≡ x
-    go zero h = refl
-    go (suc n) h = rw (go n (omega arith)) (fixed (rank n) h)
-
 -- Start, end and take leave all quiet.
 pub start-calm : (x : State) (r : Rank) (h : ℕ) → AllQuiet x → r .0 < ranks → AllQuiet (start r h x .state)
 unfolding start
@@ -163,10 +153,10 @@ take-calm x b a c = calm-kept c (take b a x .state) refl refl
 
 -- A move from a quiet state awaits nothing, and its landing leaves all quiet.
 pub move-calm : (x : State) (r : Rank) (h : ℕ) → AllQuiet x → r .0 < ranks → Moving (move r h x .state) r
-unfolding move leaveAll
+unfolding move leaveAll eachRank
 move-calm x r h c hr =
     calm-kept (calm-status c r (Migrating (endpoint (status x r)) (nextVmid x h)) hr) (move r h x .state) refl
-    (eachRank-fixed (leave r) (x .links) (λ p hp. rw (c .links r p hr hp)))
+    (eachBelow-fixed ranks (λ k. leave r (rank k)) (x .links) (λ k hk. rw (c .links r (rank k) hr hk)))
 
 pub land-calm : (x : State) (r : Rank) → Moving x r → r .0 < ranks → AllQuiet (land r x .state)
 unfolding land
@@ -184,30 +174,31 @@ pub sameVmid-self : (v : Vmid) → sameVmid v v ≡ true
 sameVmid-self v = rw (eq-eqb (v .0) (v .0) refl, eq-eqb (v .1) (v .1) refl)
 
 -- A route of the only call corrects the posted vmid, or joins the two.
-module _ (x : State) (a b : Rank) (v : Vmid) (c : Calling x a b v) (ha : a .0 < ranks) (hb : b .0 < ranks) (runs : isEnded (status x b) ≡ false) where
-  posted : request x a ≡ Posted b v
-  posted = c .requests a ha ∙ rw (sameRank-self a)
+module _ (x : State) (a b : Rank) (v : Vmid) (c : Calling x a b v) (ha : a .0 < ranks) (hb : b .0 < ranks)
+    (runs : isEnded (status x b) ≡ false)
+  where
+    posted : request x a ≡ Posted b v
+    posted = c .requests a ha ∙ rw (sameRank-self a)
 
-  pub route-corrects : sameVmid v (endpoint (status x b)) ≡ false → Calling (route a b x .state) a b (endpoint (status x b))
-  unfolding route
-  route-corrects e =
-      rw (runs, posted, e)
-      (calm-as
-      (calm-kept (calm-request c a (Posted b (endpoint (status x b))) ha) (routeOn a b (endpoint (status x b)) x .state) refl refl)
-      (λ p. refl)
-      (λ p. by-test (sameRank p a) (λ f. rw f) (λ f. rw f))
-      (λ p q. refl))
+    pub route-corrects : sameVmid v (endpoint (status x b)) ≡ false → Calling (route a b x .state) a b (endpoint (status x b))
+    unfolding route
+    route-corrects e =
+        rw (runs, posted, e)
+        (calm-as
+        (calm-kept (calm-request c a (Posted b (endpoint (status x b))) ha) (routeOn a b (endpoint (status x b)) x .state) refl refl)
+        (λ p. refl) (λ p. by-test (sameRank p a) (λ f. rw f) (λ f. rw f)) (λ p q. refl))
 
-  pub route-joins : sameVmid v (endpoint (status x b)) ≡ true → Joined (route a b x .state) a b
-  unfolding route
-  route-joins e =
-      let joined : Joined (withRequest a Absent (connectBoth a b Open x)) a b =
-      calm-as (calm-request (calm-connect (calm-connect c a b Open ha hb) b a Open hb ha) a Absent ha)
-      (λ p. refl) (λ p. by-test (sameRank p a) (λ f. rw f) (λ f. rw f)) (λ p q. refl) in
-      rw (runs, posted, e, sameRank-self b, joined .requests b hb) joined
+    pub route-joins : sameVmid v (endpoint (status x b)) ≡ true → Joined (route a b x .state) a b
+    unfolding route
+    route-joins e =
+        let joined : Joined (withRequest a Absent (connectBoth a b Open x)) a b =
+        calm-as (calm-request (calm-connect (calm-connect c a b Open ha hb) b a Open hb ha) a Absent ha)
+        (λ p. refl) (λ p. by-test (sameRank p a) (λ f. rw f) (λ f. rw f)) (λ p q. refl) in
+        rw (runs, posted, e, sameRank-self b, joined .requests b hb) joined
 
 -- A send changes nothing of all that, and the parting of the only two that are joined leaves all quiet.
-pub send-calm : (x : State) (a b : Rank) (v : ℕ) {l : Rank → Rank → Connection} → Calm x nobody uncalled l → Calm (send a b v x .state) nobody uncalled l
+pub send-calm : (x : State) (a b : Rank) (v : ℕ) {l : Rank → Rank → Connection} → Calm x nobody uncalled l
+    → Calm (send a b v x .state) nobody uncalled l
 unfolding send
 send-calm x a b v c = calm-kept c (send a b v x .state) refl refl
 

@@ -39,6 +39,7 @@ everyPair-of f h =
     allBelow-of ranks (λ m. allBelow ranks (λ n. f (rank m) (rank n)))
     (λ m bm. allBelow-of ranks (λ n. f (rank m) (rank n)) (λ n bn. h (rank m) (rank n) bm bn))
 
-pub eachRank-keeps : {A : Type 0} (P : A → Type 0) (f : Rank → A → A) (x : A) → P x → ((r : Rank) (y : A) → P y → P (f r y)) → P (eachRank f x)
+pub eachRank-keeps : {A : Type 0} (P : A → Type 0) (f : Rank → A → A) (x : A) → P x → ((r : Rank) (y : A) → P y → P (f r y))
+    → P (eachRank f x)
 unfolding eachRank
 eachRank-keeps P f x h keep = eachBelow-keeps P ranks (λ n. f (rank n)) x h (λ k y p. keep (rank k) y p)

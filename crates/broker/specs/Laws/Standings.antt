@@ -36,24 +36,20 @@ module _ {A : Type 0} (f : Status → A) (s : State) (r : Rank) where
   standings-with-request q =
       map-set-same (λ (p : Process). f (p .status)) (s .processes) (r .0) (record { status = status s r; request = q }) idle refl
 
--- What is not seen of calls, lines and tables is not seen of a call and a route.
-module _ {A : Type 0} (see : State → A)
-    (calls : (s : State) (r : Rank) (q : Request) → see (withRequest r q s) ≡ see s)
-    (lines : (s : State) (ls : List Link) → see (withLinks ls s) ≡ see s)
-    (tables : (s : State) (vs : List Vmid) → see (withLocations vs s) ≡ see s)
-  where
-    withdraw-unseen : (a b : Rank) (s : State) → see (withdraw a b s) ≡ see s
-    withdraw-unseen a b s =
-        chosen (λ t. see t ≡ see s) (asksFor b (request s a)) (withRequest a Absent s) s (λ e. calls s a Absent) (λ e. refl)
+-- What is not seen of calls is not seen of one that closes; and what is not seen of lines and tables either, of a call and a route.
+module _ {A : Type 0} (see : State → A) (calls : (s : State) (r : Rank) (q : Request) → see (withRequest r q s) ≡ see s) where
+  pub withdraw-unseen : (a b : Rank) (s : State) → see (withdraw a b s) ≡ see s
+  withdraw-unseen a b s =
+      chosen (λ t. see t ≡ see s) (asksFor b (request s a)) (withRequest a Absent s) s (λ e. calls s a Absent) (λ e. refl)
 
-    pub call-unseen : (a b : Rank) (s : State) → see (call a b s .state) ≡ see s
-    unfolding call
-    call-unseen a b s = calls s a _
+  pub call-unseen : (a b : Rank) (s : State) → see (call a b s .state) ≡ see s
+  unfolding call
+  call-unseen a b s = calls s a _
 
-    pub route-unseen : (a b : Rank) (s : State) → see (route a b s .state) ≡ see s
-    route-unseen a b s =
-        let joined = connectBoth a b Open s in
-        route-cases (λ t. see t ≡ see s) a b s
-        (calls s a Absent)
-        (withdraw-unseen b a (withdraw a b joined) ∙ withdraw-unseen a b joined ∙ lines s _)
-        (calls _ a _ ∙ tables s _)
+  pub route-unseen : ((s : State) (ls : List Link) → see (withLinks ls s) ≡ see s)
+      → ((s : State) (vs : List Vmid) → see (withLocations vs s) ≡ see s)
+      → (a b : Rank) (s : State) → see (route a b s .state) ≡ see s
+  route-unseen lines tables a b s =
+      let joined = connectBoth a b Open s in
+      route-cases (λ t. see t ≡ see s) a b s (calls s a Absent)
+      (withdraw-unseen b a (withdraw a b joined) ∙ withdraw-unseen a b joined ∙ lines s _) (calls _ a _ ∙ tables s _)

@@ -9,7 +9,7 @@ use native.Mathlib.Omega.{arith}
 use borrow.Author.Tests.{not-true}
 use lib.Dec.{leb, ltb}
 use lib.ListN.{length, getD}
-use Rattle.base.specs.Laws.Tests.{both-left, both-right}
+use Rattle.base.specs.Laws.Tests.{by-test, both-left, both-right}
 use Rattle.base.specs.Lists.{every}
 use Rattle.transit.specs.declared.Rank.{Rank}
 use Rattle.broker.specs.Answer.{refusalNumber, values}
@@ -17,10 +17,10 @@ use Rattle.broker.specs.Checks.{Check, checks, firstOf, refusal}
 use Rattle.broker.specs.Kind
 use Rattle.broker.specs.Laws.Kept.{sound-kept}
 use Rattle.broker.specs.Done.{Done}
-use Rattle.broker.specs.Record.{decode, recordOf}
+use Rattle.broker.specs.Record.{decode}
 use Rattle.broker.specs.Sound.{sound}
 use Rattle.broker.specs.State.{State}
-use Rattle.broker.specs.Step.{Outcome, apply, refused, onDecoded, settle, stepSound, step}
+use Rattle.broker.specs.Step.{Outcome, apply, refused, settle, stepSound, step}
 use Rattle.broker.specs.declared.answer.Answer.the-variants.{Accepted, Refused}
 use Rattle.broker.specs.declared.answer.Refusal.{Refusal}
 use Rattle.broker.specs.declared.answer.Refusal.the-variants.{Unsound, UnknownKind, CutShort}
@@ -42,37 +42,29 @@ carried d next = record { answer = Accepted (d .v1) (d .v2) (d .v3); next = next
 -- What a step comes to: a refusal that leaves the state as it was, or a record that passes every check and is carried out.
 pub data Course (named : Rank) (s : State) (log : List ℕ) (at : ℕ) : Type 0 where
   turned-away : (n : Refusal) → step named s log at ≡ refused n (cond (staysAt n) at (pastRecord log at)) s → Course named s log at
-  carried-out : (r : Record) → sound s ≡ true → decode log at ≡ Whole r (pastRecord log at) → refusal s r ≡ none → step named s log at ≡ carried (apply named r s) (pastRecord log at) → Course named s log at
+  carried-out : (r : Record) → sound s ≡ true → decode log at ≡ Whole r (pastRecord log at) → refusal s r ≡ none
+      → step named s log at ≡ carried (apply named r s) (pastRecord log at) → Course named s log at
 
 -- A record that is read whole ends where its kind says.
 pub whole-ends : (log : List ℕ) (at : ℕ) (r : Record) (next : ℕ) → decode log at ≡ Whole r next → next ≡ pastRecord log at
 unfolding decode
 whole-ends log at r next e =
-    go
-    (ltb at (length log))
-    (Kind.isKind (getD log at 0))
-    (leb (pastRecord log at) (length log))
-    (recordOf (getD log at 0) log (at + 1))
-    (pastRecord log at)
-    e
-  where
-    go : (b c d : Bool) (x : Record) (n : ℕ) → cond b (cond c (cond d (Whole x n) Cut) Unknown) Cut ≡ Whole r next → next ≡ n
-    go true true true x n e = cc
-    go true true false x n e = cc
-    go true false d x n e = cc
-    go false c d x n e = cc
+    by-test (ltb at (length log))
+    (λ b. by-test (Kind.isKind (getD log at 0))
+    (λ c. by-test (leb (pastRecord log at) (length log)) (λ d. cc (rw (b, c, d) at e)) (λ d. cc (rw (b, c, d) at e)))
+    (λ c. cc (rw (b, c) at e)))
+    (λ b. cc (rw b at e))
 
 -- No row of the table of checks has a number up to 3.
-pub checks-pass-record : (cs : List Check) → every (λ c. not (staysAt (c .refusal))) cs ≡ true → (s : State) (r : Record) (n : Refusal) → firstOf cs s r ≡ some n → staysAt n ≡ false
-checks-pass-record [] all s r n e = let z : _≡_ {A = ℕ} 0 1 = cc in absurd (omega arith)
+pub checks-pass-record : (cs : List Check) → every (λ c. not (staysAt (c .refusal))) cs ≡ true
+    → (s : State) (r : Record) (n : Refusal) → firstOf cs s r ≡ some n → staysAt n ≡ false
+checks-pass-record [] all s r n e = cc
 checks-pass-record (c ∷ cs) all s r n e =
-    go (c .given s r) e (checks-pass-record cs (both-right (not (staysAt (c .refusal))) _ all) s r n)
-  where
-    go : (b : Bool) → cond b (some (c .refusal)) (firstOf cs s r) ≡ some n → (firstOf cs s r ≡ some n → staysAt n ≡ false) → staysAt n ≡ false
-    go true e later =
-        let same : c .refusal ≡ n = cc in
-        rw (← same) (not-true (staysAt (c .refusal)) (both-left _ _ all))
-    go false e later = later e
+    by-test (c .given s r)
+    (λ g.
+    let same : c .refusal ≡ n = cc (rw g at e) in
+    rw (← same) (not-true (staysAt (c .refusal)) (both-left _ _ all)))
+    (λ g. checks-pass-record cs (both-right (not (staysAt (c .refusal))) _ all) s r n (rw g at e))
 
 -- A step of a sound state goes by the record that it reads.
 pub step-of-sound : (named : Rank) (s : State) (log : List ℕ) (at : ℕ) → sound s ≡ true → step named s log at ≡ stepSound named s log at
@@ -80,16 +72,18 @@ unfolding step
 step-of-sound named s log at h = rw h
 
 -- A record that passes every check is carried out.
-pub step-accepted : (named : Rank) (s : State) (log : List ℕ) (at : ℕ) (r : Record) (next : ℕ) → sound s ≡ true → decode log at ≡ Whole r next → refusal s r ≡ none → step named s log at ≡ carried (apply named r s) next
+pub step-accepted : (named : Rank) (s : State) (log : List ℕ) (at : ℕ) (r : Record) (next : ℕ) → sound s ≡ true
+    → decode log at ≡ Whole r next → refusal s r ≡ none → step named s log at ≡ carried (apply named r s) next
 unfolding stepSound settle
 step-accepted named s log at r next h d p = step-of-sound named s log at h ∙ rw (d, p)
 
 -- Every step takes one of the two courses.
 pub course : (named : Rank) (s : State) (log : List ℕ) (at : ℕ) → Course named s log at
 unfolding step stepSound settle checks refusal
-course named s log at = by-soundness (sound s) refl
+course named s log at = by-test (sound s) (λ h. by-record h (decode log at) refl) (λ h. turned-away Unsound (rw h))
   where
-    by-check : (r : Record) → sound s ≡ true → decode log at ≡ Whole r (pastRecord log at) → (o : Option Refusal) → refusal s r ≡ o → Course named s log at
+    by-check : (r : Record) → sound s ≡ true → decode log at ≡ Whole r (pastRecord log at) → (o : Option Refusal) → refusal s r ≡ o
+        → Course named s log at
     by-check r h d none p = carried-out r h d p (step-accepted named s log at r (pastRecord log at) h d p)
     by-check r h d (some n) p =
         turned-away n (step-of-sound named s log at h ∙ rw (d, p, checks-pass-record checks refl s r n p))
@@ -99,10 +93,6 @@ course named s log at = by-soundness (sound s) refl
     by-record h Unknown e = turned-away UnknownKind (step-of-sound named s log at h ∙ rw e)
     by-record h Cut e = turned-away CutShort (step-of-sound named s log at h ∙ rw e)
 
-    by-soundness : (b : Bool) → sound s ≡ b → Course named s log at
-    by-soundness true h = by-record h (decode log at) refl
-    by-soundness false h = turned-away Unsound (rw h)
-
 -- "A refusal leaves the state lent for a step unchanged, v1 to v3 zero. The position passes the record, except at 1, 2 and 3, where it
 -- stays."
 pub record Leaves (s : State) (log : List ℕ) (at : ℕ) (n : Refusal) (o : Outcome) : Type 0 where
@@ -110,7 +100,8 @@ pub record Leaves (s : State) (log : List ℕ) (at : ℕ) (n : Refusal) (o : Out
   pub zeros : values (o .answer) ≡ 0 ∷ 0 ∷ 0 ∷ []
   pub position : o .next ≡ cond (staysAt n) at (pastRecord log at)
 
-pub step-refused : (named : Rank) (s : State) (log : List ℕ) (at : ℕ) (n : Refusal) → step named s log at .answer ≡ Refused n → Leaves s log at n (step named s log at)
+pub step-refused : (named : Rank) (s : State) (log : List ℕ) (at : ℕ) (n : Refusal) → step named s log at .answer ≡ Refused n
+    → Leaves s log at n (step named s log at)
 step-refused named s log at n e = go (course named s log at)
   where
     go : Course named s log at → Leaves s log at n (step named s log at)

@@ -1,155 +1,143 @@
--- A finite view of a pair of ranks: of each side its standing, its line, its await and whether its call goes to the other. All that
--- soundness says of a pair, and of one message of it, is a test of that view. Assumes nothing.
-use mathlib.Core.Path.{_≡_, refl}
+-- A finite view of a pair of ranks: of each side whether it is started, runs and migrates, its link, and whether its call goes to the
+-- other. All that soundness says of a pair, and of one message of it, is a test of that view. Assumes nothing.
 use mathlib.Core.Bool.{Bool, true, false, not, Bool·beq, _&&_, _||_}
-use Rattle.base.specs.Laws.Tests.{both-left, both-right}
-use Rattle.transit.specs.Message.{samePlace}
+use mathlib.Core.List.{List, [], _∷_}
+use lib.Dec.{leb}
+use Rattle.base.specs.Laws.Tests.{chain}
+use Rattle.base.specs.Lists.{every}
+use Rattle.transit.specs.Message.{placeNumber, samePlace}
 use Rattle.transit.specs.declared.Place.{Place}
 use Rattle.transit.specs.declared.Place.the-variants.{SourceList, SourceChannel, EndList, Channel}
 use Rattle.transit.specs.declared.Rank.{Rank}
-use Rattle.broker.specs.Names.{asksFor, isClosed, isOpen, isClosing, isClear, isUnheeded}
-use Rattle.broker.specs.State.{State, status, request, connection, backlog}
+use Rattle.broker.specs.Names.{isStarted, isRunning, isMigrating, asksFor, isClosed, isOpen, isClosing, isClear, isUnheeded}
+use Rattle.broker.specs.State.{State, linkAt, status, request}
 use Rattle.broker.specs.declared.link.Backlog.{Backlog}
 use Rattle.broker.specs.declared.link.Backlog.the-variants.{Clear, Unheeded, Marked}
 use Rattle.broker.specs.declared.link.Connection.{Connection}
 use Rattle.broker.specs.declared.link.Connection.the-variants.{Closed, Open, Closing}
+use Rattle.broker.specs.declared.link.Link.{Link}
 use Rattle.broker.specs.declared.process.Status.{Status}
-use Rattle.broker.specs.declared.process.Status.the-variants.{Unstarted, Running, Migrating, Ended}
-
--- a standing without its vmids
-pub data Standing : Type 0 where
-  unstarted running migrating ended : Standing
-
-abbrev pub standing : Status → Standing
-standing Unstarted = unstarted
-standing (Running v) = running
-standing (Migrating v w) = migrating
-standing (Ended v) = ended
-
-abbrev pub hasStarted : Standing → Bool
-hasStarted unstarted = false
-hasStarted running = true
-hasStarted migrating = true
-hasStarted ended = true
-
-abbrev pub runs : Standing → Bool
-runs unstarted = false
-runs running = true
-runs migrating = false
-runs ended = false
-
-abbrev pub migrates : Standing → Bool
-migrates unstarted = false
-migrates running = false
-migrates migrating = true
-migrates ended = false
-
-abbrev pub lives : Standing → Bool
-lives t = runs t || migrates t
 
 -- one rank towards another
 pub record Side : Type 0 where
-  pub stands : Standing
-  pub connection : Connection
-  pub backlog : Backlog
+  pub started : Bool
+  pub runs : Bool
+  pub migrates : Bool
+  pub link : Link
   pub asks : Bool
 
-abbrev pub side : State → Rank → Rank → Side
-side s a b =
-    record {
-      stands = standing (status s a);
-      connection = connection s a b;
-      backlog = backlog s a b;
-      asks = asksFor b (request s a);
-    }
+-- as its standing, its link and its call say
+abbrev pub sideOf : Status → Link → Bool → Side
+sideOf t l q = record { started = isStarted t; runs = isRunning t; migrates = isMigrating t; link = l; asks = q }
 
--- the clauses of soundness about a pair, of the first side towards the second
+abbrev pub side : State → Rank → Rank → Side
+side s a b = sideOf (status s a) (linkAt (s .links) a b) (asksFor b (request s a))
+
+-- the clauses of soundness about a rank and itself
+abbrev pub nothing : Side → Bool
+nothing x = isClosed (x .link .connection) && isClear (x .link .backlog) && not (x .asks)
+
+-- the clauses about a pair, of the first side towards the second
+abbrev pub lineBelongs : Side → Bool
+lineBelongs x = isClosed (x .link .connection) || (x .runs || x .migrates)
+
+abbrev pub pairClauses : Side → Side → List Bool
+pairClauses x y =
+    (not (isOpen (x .link .connection)) || isOpen (y .link .connection)) ∷
+    (not (isClosing (x .link .connection)) || isClosed (y .link .connection)) ∷
+    (isClear (x .link .backlog) || x .migrates && y .started) ∷
+    Bool·beq (isUnheeded (x .link .backlog)) (isClosing (y .link .connection)) ∷
+    (not (x .asks) || x .runs && y .started && isClosed (x .link .connection)) ∷ []
+
 unfoldable pub pairFits : Side → Side → Bool
-pairFits x y =
-    (isClosed (x .connection) || lives (x .stands)) &&
-    (not (isOpen (x .connection)) || isOpen (y .connection)) &&
-    (not (isClosing (x .connection)) || isClosed (y .connection)) &&
-    (isClear (x .backlog) || migrates (x .stands) && hasStarted (y .stands)) &&
-    Bool·beq (isUnheeded (x .backlog)) (isClosing (y .connection)) &&
-    (not (x .asks) || runs (x .stands) && hasStarted (y .stands) && isClosed (x .connection))
+pairFits x y = chain (lineBelongs x) (pairClauses x y)
 
 -- the clauses about a message at a place, of the receiver's side and the sender's
 unfoldable pub messageFits : Place → Side → Side → Bool
 messageFits p x y =
-    (hasStarted (y .stands) && lives (x .stands)) &&
-    (not (isUnheeded (x .backlog)) || samePlace p SourceList || samePlace p SourceChannel) &&
-    ((not (samePlace p SourceList || samePlace p SourceChannel) || migrates (x .stands)) &&
-    (not (samePlace p SourceChannel) || not (isClear (x .backlog))) &&
-    (not (samePlace p Channel) || not (isClosed (x .connection))))
+    (y .started && (x .runs || x .migrates)) &&
+    (not (isUnheeded (x .link .backlog)) || samePlace p SourceList || samePlace p SourceChannel) &&
+    ((not (samePlace p SourceList || samePlace p SourceChannel) || x .migrates) &&
+    (not (samePlace p SourceChannel) || not (isClear (x .link .backlog))) &&
+    (not (samePlace p Channel) || not (isClosed (x .link .connection))))
 
--- a rank's part in a step, as a pair of ranks sees it
-pub data Role : Type 0 where
-  forward backward outside : Role
-
-abbrev pub turn : Role → Role
-turn forward = backward
-turn backward = forward
-turn outside = outside
-
--- what a step does to a view: the first side anew, and a message's place anew; and what the step asks of the view, and of a message
+-- what a step does to a pair of ranks in which it is about the first: both sides anew, the place of a message to the first and to the
+-- second anew; and what the step asks of the pair, and where it bars messages to the first
 pub record Change : Type 0 where
-  pub anew : Role → Side → Side → Side
-  pub place : Role → Place → Place
-  pub asked : Role → Side → Side → Bool
-  pub askedOf : Role → Place → Bool
+  pub own : Side → Side → Side
+  pub other : Side → Side → Side
+  pub place : Place → Place
+  pub placeBack : Place → Place
+  pub asked : Side → Side → Bool
+  pub bars : Place → Bool
 
--- a test at every value of each finite type
-abbrev pub atStandings : (Standing → Bool) → Bool
-atStandings f = f unstarted && f running && f migrating && f ended
+-- the values of each finite type
+abbrev pub connections : List Connection
+connections = Closed ∷ Open ∷ Closing ∷ []
 
-abbrev pub atConnections : (Connection → Bool) → Bool
-atConnections f = f Closed && f Open && f Closing
+abbrev pub backlogs : List Backlog
+backlogs = Clear ∷ Unheeded ∷ Marked ∷ []
 
-abbrev pub atBacklogs : (Backlog → Bool) → Bool
-atBacklogs f = f Clear && f Unheeded && f Marked
+abbrev pub answers : List Bool
+answers = true ∷ false ∷ []
 
-abbrev pub atBools : (Bool → Bool) → Bool
-atBools f = f true && f false
+abbrev pub places : List Place
+places = SourceList ∷ SourceChannel ∷ EndList ∷ Channel ∷ []
 
-abbrev pub atPlaces : (Place → Bool) → Bool
-atPlaces f = f SourceList && f SourceChannel && f EndList && f Channel
+-- the second test passes where the first does; it is not computed where the first fails
+abbrev pub ifSo : Bool → Bool → Bool
+ifSo a b = elim a [ true ↦ b | false ↦ true ]
 
-abbrev pub atRoles : (Role → Bool) → Bool
-atRoles f = f forward && f backward && f outside
-
+-- a test at every side
 abbrev pub atSides : (Side → Bool) → Bool
 atSides f =
-    atStandings
-    (λ t. atConnections (λ c. atBacklogs (λ g. atBools (λ q. f (record { stands = t; connection = c; backlog = g; asks = q })))))
+    every (λ i. every (λ j. every (λ k. every (λ c. every (λ g. every (λ q.
+    f (record { started = i; runs = j; migrates = k; link = record { connection = c; backlog = g }; asks = q }))
+    answers) backlogs) connections) answers) answers) answers
+
+-- what some standing says: who runs or migrates is started, and nobody does both
+abbrev pub standsSo : Side → Bool
+standsSo x = (x .started || not (x .runs || x .migrates)) && not (x .runs && x .migrates)
 
 -- what a pair that fits says of its first side alone
 abbrev pub sideFits : Side → Bool
 sideFits x =
-    (isClosed (x .connection) || lives (x .stands)) &&
-    (isClear (x .backlog) || migrates (x .stands)) &&
-    (not (x .asks) || runs (x .stands) && isClosed (x .connection))
-
--- both sides fit, and the step's demand is met
-abbrev pub given : Change → Role → Side → Side → Bool
-given c k x y = pairFits x y && pairFits y x && c .asked k x y && c .asked (turn k) y x
+    lineBelongs x &&
+    (isClear (x .link .backlog) || x .migrates) &&
+    (not (x .asks) || x .runs && isClosed (x .link .connection))
 
 -- a test at every pair of sides each of which fits alone
 abbrev pub atPairs : (Side → Side → Bool) → Bool
-atPairs f =
-    atSides (λ x. elim (sideFits x) [ true ↦ atSides (λ y. elim (sideFits y) [ true ↦ f x y | false ↦ true ]) | false ↦ true ])
+atPairs f = atSides (λ x. ifSo (standsSo x && sideFits x) (atSides (λ y. ifSo (standsSo y && sideFits y) (f x y))))
 
--- the change keeps a message at a place fit
-abbrev pub messageKept : Change → Role → Side → Side → Place → Bool
-messageKept c k x y p =
-    elim (messageFits p x y && c .askedOf k p)
-    [ true ↦ messageFits (c .place k p) (c .anew k x y) (c .anew (turn k) y x) | false ↦ true ]
+-- both sides fit, and the step's demand is met
+abbrev pub given : Change → Side → Side → Bool
+given c x y = pairFits x y && pairFits y x && c .asked x y
 
--- the change keeps a pair fit, and every message of it
-abbrev pub pairKept : Change → Role → Side → Side → Bool
-pairKept c k x y =
-    elim (given c k x y)
-    [ true ↦ pairFits (c .anew k x y) (c .anew (turn k) y x) && atPlaces (messageKept c k x y) | false ↦ true ]
+-- the one place is not past the other
+abbrev pub upTo : Place → Place → Bool
+upTo p q = leb (placeNumber p) (placeNumber q)
+
+-- the change keeps the order of a message at a place and one at another, and messages at a place fit: to the first, and to the second
+abbrev pub orderKept : (Place → Place) → Side → Side → Place → Place → Bool
+orderKept f x y p q = ifSo (messageFits p x y && messageFits q x y && upTo p q) (upTo (f p) (f q))
+
+abbrev pub messagesKept : Change → Side → Side → Place → List Bool
+messagesKept c x y p =
+    ifSo (messageFits p y x) (messageFits (c .placeBack p) (c .other y x) (c .own x y)) ∷
+    every (orderKept (c .place) x y p) places ∷ every (orderKept (c .placeBack) y x p) places ∷ []
+
+abbrev pub messageKept : Change → Side → Side → Place → Bool
+messageKept c x y p = ifSo (messageFits p x y && not (c .bars p)) (messageFits (c .place p) (c .own x y) (c .other y x))
+
+-- the change keeps a pair fit both ways, and every message of it
+abbrev pub pairKept : Change → Side → Side → Bool
+pairKept c x y =
+    ifSo (given c x y)
+    (chain (pairFits (c .own x y) (c .other y x))
+    (pairFits (c .other y x) (c .own x y) ∷ every (λ p. chain (messageKept c x y p) (messagesKept c x y p)) places ∷ []))
 
 -- the change keeps every pair
 unfoldable pub keeps : Change → Bool
-keeps c = atRoles (λ k. atPairs (pairKept c k))
+unfolding pairFits messageFits
+keeps c = atPairs (pairKept c)

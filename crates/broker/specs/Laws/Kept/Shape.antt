@@ -12,16 +12,16 @@ use Rattle.broker.specs.Laws.Cases.{route-cases, drain-cases}
 use Rattle.base.specs.Laws.Stores.{long-set}
 use Rattle.transit.specs.Message.{ranks, cells}
 use Rattle.broker.specs.Laws.Each.{announced-long}
-use Rattle.broker.specs.Laws.Ranks.{eachRank-keeps}
+use Rattle.broker.specs.Laws.Leaving.{leaveAll-long}
 use Rattle.broker.specs.Laws.Sound.{Shape}
 use Rattle.broker.specs.Life.{start, end}
 use Rattle.broker.specs.Messages.{send, take, look}
-use Rattle.broker.specs.Migrate.{leaveOver, leave, leaveAll, move, heed, land}
-use Rattle.broker.specs.Names.{asksFor}
-use Rattle.broker.specs.State.{State, request, linkAt, withProcess, withLocations, withLinks, withDrawn, withUnread}
+use Rattle.broker.specs.Migrate.{move, heed, land}
+use Rattle.broker.specs.Names.{hosts, asksFor}
+use Rattle.broker.specs.State.{State, request, withProcess, withLocations, withLinks, withDrawn, withUnread}
 use Rattle.broker.specs.Step.{apply}
 use Rattle.broker.specs.declared.link.Connection.{Connection}
-use Rattle.broker.specs.declared.link.Connection.the-variants.{Closed, Open, Closing}
+use Rattle.broker.specs.declared.link.Connection.the-variants.{Closed, Open}
 use Rattle.broker.specs.declared.link.Link.{Link}
 use Rattle.broker.specs.declared.process.Process.{Process}
 use Rattle.broker.specs.declared.process.Vmid.{Vmid}
@@ -31,12 +31,8 @@ use Rattle.broker.specs.declared.record.Record.the-variants.{Start, Call
 -- the shape after a change of one part
 shape-with-process : {s : State} (r : Rank) (p : Process) → Shape s → Shape (withProcess r p s)
 shape-with-process {s} r p f =
-    record {
-      processes-long = long-set ranks (s .processes) (r .0) p (f .processes-long);
-      locations-long = f .locations-long;
-      links-long = f .links-long;
-      drawn-long = f .drawn-long;
-    }
+    let long = long-set ranks (s .processes) (r .0) p (f .processes-long) in
+    record { processes-long = long; locations-long = f .locations-long; links-long = f .links-long; drawn-long = f .drawn-long }
 
 pub shape-with-locations : {s : State} (ls : List Vmid) → length ls ≡ cells → Shape s → Shape (withLocations ls s)
 shape-with-locations ls e f =
@@ -44,38 +40,17 @@ shape-with-locations ls e f =
 
 shape-with-links : {s : State} (ls : List Link) → length ls ≡ cells → Shape s → Shape (withLinks ls s)
 shape-with-links ls e f =
-    record
-    { processes-long = f .processes-long; locations-long = f .locations-long; links-long = e; drawn-long = f .drawn-long }
+    record { processes-long = f .processes-long; locations-long = f .locations-long; links-long = e; drawn-long = f .drawn-long }
 
 pub shape-with-drawn : {s : State} (h n : ℕ) → Shape s → Shape (withDrawn h n s)
 shape-with-drawn {s} h n f =
-    record {
-      processes-long = f .processes-long;
-      locations-long = f .locations-long;
-      links-long = f .links-long;
-      drawn-long = long-set 8 (s .drawn) h n (f .drawn-long);
-    }
+    let long = long-set hosts (s .drawn) h n (f .drawn-long) in
+    record { processes-long = f .processes-long; locations-long = f .locations-long; links-long = f .links-long; drawn-long = long }
 
 shape-with-unread : {s : State} (u : Unread) → Shape s → Shape (withUnread u s)
 shape-with-unread u f =
-    record {
-      processes-long = f .processes-long;
-      locations-long = f .locations-long;
-      links-long = f .links-long;
-      drawn-long = f .drawn-long;
-    }
-
--- r's leaving keeps the length of the links
-leaveOver-long : (c : Connection) (r p : Rank) (ls : List Link) → length ls ≡ cells → length (leaveOver c r p ls) ≡ cells
-leaveOver-long Closed r p ls e = e
-leaveOver-long Open r p ls e = rw (length-set, length-set) e
-leaveOver-long Closing r p ls e = rw (length-set, length-set) e
-
-leaveAll-long : (r : Rank) (ls : List Link) → length ls ≡ cells → length (leaveAll r ls) ≡ cells
-unfolding leaveAll
-leaveAll-long r ls e =
-    eachRank-keeps (λ (l : List Link). length l ≡ cells) (leave r) ls e
-    (λ p l. leaveOver-long (linkAt l r p .connection) r p l)
+    let long = f .processes-long in
+    record { processes-long = long; locations-long = f .locations-long; links-long = f .links-long; drawn-long = f .drawn-long }
 
 pub shape-connect : {s : State} (a b : Rank) (c : Connection) → Shape s → Shape (connectBoth a b c s)
 shape-connect a b c f = shape-with-links _ (rw (length-set, length-set) (f .links-long)) f
@@ -98,8 +73,7 @@ shape-kept named s (Take b a) f = shape-with-unread _ f
 shape-kept named s (Move r h) f =
     shape-with-links _ (leaveAll-long r (s .links) (f .links-long))
     (shape-with-unread _ (shape-with-process r _ (shape-with-drawn h _ f)))
-shape-kept named s (Heed b r) f =
-    shape-with-links _ (rw (length-set, length-set) (f .links-long)) (shape-with-unread _ f)
+shape-kept named s (Heed b r) f = shape-with-links _ (rw (length-set, length-set) (f .links-long)) (shape-with-unread _ f)
 shape-kept named s (Drain r p) f =
     drain-cases Shape r p s (shape-with-unread _ f) (shape-with-links _ (rw length-set (f .links-long)) f)
 shape-kept named s (Land r) f = shape-with-process r _ (shape-with-unread _ f)
