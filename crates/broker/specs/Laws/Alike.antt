@@ -13,10 +13,29 @@ use Rattle.transit.specs.Message.{between, to, ranks}
 use Rattle.transit.specs.declared.Message.{Message}
 use Rattle.transit.specs.declared.Rank.{Rank}
 use Rattle.broker.specs.Checks.{refusal}
-use Rattle.broker.specs.Laws.Accepted.{One, Two, SendFits, start-fits, send-fits, take-fits, move-fits, end-fits}
-use Rattle.broker.specs.Laws.Accepted.{started-of-migrating, running-not-ended}
-use Rattle.broker.specs.Laws.Accepts.{start-accepted, call-accepted, route-accepted, send-accepted, take-accepted, move-accepted}
-use Rattle.broker.specs.Laws.Accepts.{land-accepted, part-accepted, end-accepted}
+use Rattle.broker.specs.Laws.Accepted.{
+  One,
+  Two,
+  SendFits,
+  start-fits,
+  send-fits,
+  take-fits,
+  move-fits,
+  end-fits,
+  started-of-migrating,
+  running-not-ended,
+}
+use Rattle.broker.specs.Laws.Accepts.{
+  start-accepted,
+  call-accepted,
+  route-accepted,
+  send-accepted,
+  take-accepted,
+  move-accepted,
+  land-accepted,
+  part-accepted,
+  end-accepted,
+}
 use Rattle.broker.specs.Laws.Core.{Core, core, settled, letter, core-status, endpoint-settled}
 use Rattle.broker.specs.Laws.Fit.{tested-pair, stands, pair-fits}
 use Rattle.broker.specs.Laws.Quiet.{Calm, AllQuiet, Moving, Calling, Joined, nobody}

@@ -21,8 +21,17 @@ use Rattle.broker.specs.Checks.{refusal}
 use Rattle.broker.specs.Connect.{part}
 use Rattle.broker.specs.Laws.Accepted.{TakeFits, send-fits, take-fits, land-fits}
 use Rattle.broker.specs.Laws.Cases.{drain-cases}
-use Rattle.broker.specs.Laws.Core.{core, settled, letter, coreStep, valuesBetween, eachTo-letters, firstTo-letters, core-status}
-use Rattle.broker.specs.Laws.Core.{endpoint-settled}
+use Rattle.broker.specs.Laws.Core.{
+  core,
+  settled,
+  letter,
+  coreStep,
+  valuesBetween,
+  eachTo-letters,
+  firstTo-letters,
+  core-status,
+  endpoint-settled,
+}
 use Rattle.base.specs.Laws.Tests.{not-both}
 use Rattle.broker.specs.Laws.Sound.{facts}
 use Rattle.broker.specs.Laws.Standings.{standings-with-status, standings-with-request, call-unseen, route-unseen}

@@ -13,8 +13,18 @@ use Rattle.transit.specs.Message.{sameRank, relabelled, isRank, ranks, between,
 use Rattle.transit.specs.declared.Message.{Message}
 use Rattle.transit.specs.declared.Place.{Place}
 use Rattle.transit.specs.declared.Rank.{Rank}
-use Rattle.broker.specs.Laws.Fit.{pair-fits, pair-kept, pair-kept-back, message-kept, message-kept-back, order-kept, order-kept-back}
-use Rattle.broker.specs.Laws.Fit.{pairs-from-fits, messages-fit, fits}
+use Rattle.broker.specs.Laws.Fit.{
+  pair-fits,
+  pair-kept,
+  pair-kept-back,
+  message-kept,
+  message-kept-back,
+  order-kept,
+  order-kept-back,
+  pairs-from-fits,
+  messages-fit,
+  fits,
+}
 use Rattle.broker.specs.Laws.Links.{sender-of, receiver-of}
 use Rattle.broker.specs.Laws.Sound.{AtPairs, Facts, Pairs, isNamed}
 use Rattle.broker.specs.Laws.State.{sameRank-turned}

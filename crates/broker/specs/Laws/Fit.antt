@@ -16,9 +16,32 @@ use Rattle.transit.specs.declared.Place.the-variants.{SourceList, SourceChannel
 use Rattle.transit.specs.declared.Rank.{Rank}
 use Rattle.broker.specs.Laws.Sound.{AtRanks, AtPairs, Pairs, Mail, hasEnds, fitsUnheeded, fitsPlace}
 use Rattle.broker.specs.Laws.State.{sameRank-eq}
-use Rattle.broker.specs.Laws.View.{Side, sideOf, side, nothing, Change, lineBelongs, pairClauses, pairFits, messageFits, connections}
-use Rattle.broker.specs.Laws.View.{backlogs, answers, places, ifSo, atSides, standsSo, sideFits, atPairs, given, upTo, orderKept}
-use Rattle.broker.specs.Laws.View.{messageKept, messagesKept, keeps}
+use Rattle.broker.specs.Laws.View.{
+  Side,
+  sideOf,
+  side,
+  nothing,
+  Change,
+  lineBelongs,
+  pairClauses,
+  pairFits,
+  messageFits,
+  connections,
+  backlogs,
+  answers,
+  places,
+  ifSo,
+  atSides,
+  standsSo,
+  sideFits,
+  atPairs,
+  given,
+  upTo,
+  orderKept,
+  messageKept,
+  messagesKept,
+  keeps,
+}
 use Rattle.broker.specs.State.{State, apart, status, messages}
 use Rattle.broker.specs.declared.link.Backlog.{Backlog}
 use Rattle.broker.specs.declared.link.Backlog.the-variants.{Clear, Unheeded, Marked}

@@ -16,8 +16,14 @@ use Rattle.broker.specs.Kind
 use Rattle.broker.specs.Laws.Accepted.{start-fits, move-fits, land-fits, end-fits, running-not-migrating}
 use Rattle.broker.specs.Laws.Cases.{drain-cases}
 use Rattle.broker.specs.Laws.Sound.{facts}
-use Rattle.broker.specs.Laws.Standings.{standings, standing-at, standings-with-status, standings-with-request, call-unseen}
-use Rattle.broker.specs.Laws.Standings.{route-unseen}
+use Rattle.broker.specs.Laws.Standings.{
+  standings,
+  standing-at,
+  standings-with-status,
+  standings-with-request,
+  call-unseen,
+  route-unseen,
+}
 use Rattle.broker.specs.Laws.State.{status-with, status-with-request}
 use Rattle.broker.specs.Life.{start, end}
 use Rattle.broker.specs.State.{nextVmid, State, idle, status, withStatus}

@@ -16,8 +16,24 @@ use Rattle.transit.specs.declared.Place.the-variants.{SourceList, SourceChannel
 use Rattle.transit.specs.declared.Rank.{Rank}
 use Rattle.base.specs.Laws.Below.{allBelow-at, allBelow-of}
 use Rattle.broker.specs.Laws.Ranks.{everyRank-at, everyRank-of, everyPair-at, everyPair-of}
-use Rattle.broker.specs.Names.{hosts, numbers, unknown, sameVmid, isStarted, isRunning, isMigrating, isLive, processesOf, vmidsOf}
-use Rattle.broker.specs.Names.{asksFor, isClosed, isOpen, isClosing, isClear, isUnheeded}
+use Rattle.broker.specs.Names.{
+  hosts,
+  numbers,
+  unknown,
+  sameVmid,
+  isStarted,
+  isRunning,
+  isMigrating,
+  isLive,
+  processesOf,
+  vmidsOf,
+  asksFor,
+  isClosed,
+  isOpen,
+  isClosing,
+  isClear,
+  isUnheeded,
+}
 use Rattle.broker.specs.Sound
 use Rattle.broker.specs.Sound.{sound, isDrawn, ofCall, noneShared, distinct}
 use Rattle.broker.specs.State.{State, status, request, location, connection, backlog, drawnOn, messages}

@@ -11,8 +11,20 @@ use Rattle.base.specs.Laws.Stores.{getD-set, store-unseen}
 use Rattle.base.specs.Laws.Tests.{by-test, eqb-swap}
 use Rattle.transit.specs.Message.{sameRank, ranks, cells}
 use Rattle.transit.specs.declared.Rank.{Rank}
-use Rattle.broker.specs.State.{State, idle, apart, cell, linkAt, setLink, process, status, request, withProcess, withStatus}
-use Rattle.broker.specs.State.{withRequest}
+use Rattle.broker.specs.State.{
+  State,
+  idle,
+  apart,
+  cell,
+  linkAt,
+  setLink,
+  process,
+  status,
+  request,
+  withProcess,
+  withStatus,
+  withRequest,
+}
 use Rattle.broker.specs.declared.link.Link.{Link}
 use Rattle.broker.specs.declared.process.Process.{Process}
 use Rattle.broker.specs.declared.process.Request.{Request}

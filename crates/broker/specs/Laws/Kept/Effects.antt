@@ -8,23 +8,73 @@ use Rattle.base.specs.Laws.Tests.{by-test, both-left, not-both, same-either}
 use Rattle.transit.specs.Message.{sameRank, ranks, cells}
 use Rattle.transit.specs.declared.Rank.{Rank}
 use Rattle.broker.specs.Connect.{call, part, routeToEnded, routeThere, routeOn, withdraw, connectBoth}
-use Rattle.broker.specs.Laws.Accepted.{StartFits, CallFits, RouteFits, MoveFits, HeedFits, DrainFits, LandFits, PartFits, EndFits}
-use Rattle.broker.specs.Laws.Accepted.{Two}
-use Rattle.broker.specs.Laws.Changes.{connectAs, awaitAs, standAs, redone, linkAs, askAs, starting, calling, withdrawing, reposting}
-use Rattle.broker.specs.Laws.Changes.{joining, leftBy, facedBy, moving, heeding, clearing, landing, parting, ending}
+use Rattle.broker.specs.Laws.Accepted.{
+  StartFits,
+  CallFits,
+  RouteFits,
+  MoveFits,
+  HeedFits,
+  DrainFits,
+  LandFits,
+  PartFits,
+  EndFits,
+  Two,
+}
+use Rattle.broker.specs.Laws.Changes.{
+  connectAs,
+  awaitAs,
+  standAs,
+  redone,
+  linkAs,
+  askAs,
+  starting,
+  calling,
+  withdrawing,
+  reposting,
+  joining,
+  leftBy,
+  facedBy,
+  moving,
+  heeding,
+  clearing,
+  landing,
+  parting,
+  ending,
+}
 use Rattle.broker.specs.Laws.Effect.{Effect}
 use Rattle.broker.specs.Laws.Leaving.{closed-stays, leaveAll-at}
 use Rattle.broker.specs.Laws.Links.{samePair, of-pair, pair-once, not-twice, link-changed, both-changed}
 use Rattle.broker.specs.Laws.Sound.{Facts}
 use Rattle.broker.specs.Laws.Standings.{withdraw-unseen}
-use Rattle.broker.specs.Laws.State.{sameRank-eq, sameRank-self, sameRank-turned, status-with, request-with, status-with-request}
-use Rattle.broker.specs.Laws.State.{request-with-status}
+use Rattle.broker.specs.Laws.State.{
+  sameRank-eq,
+  sameRank-self,
+  sameRank-turned,
+  status-with,
+  request-with,
+  status-with-request,
+  request-with-status,
+}
 use Rattle.broker.specs.Laws.View.{Side, sideOf, side, Change, pairFits, messageFits, keeps}
 use Rattle.broker.specs.Life.{start, end}
 use Rattle.broker.specs.Migrate.{move, heed, land}
 use Rattle.broker.specs.Names.{isStarted, isEnded, isLive, endpoint, isOpenRequest, asksFor, isClosed, isClear, isUnheeded}
-use Rattle.broker.specs.State.{nextVmid, draw, await, State, idle, linkAt, status, request, location, connection, backlog, withStatus}
-use Rattle.broker.specs.State.{withRequest, withLinks}
+use Rattle.broker.specs.State.{
+  nextVmid,
+  draw,
+  await,
+  State,
+  idle,
+  linkAt,
+  status,
+  request,
+  location,
+  connection,
+  backlog,
+  withStatus,
+  withRequest,
+  withLinks,
+}
 use Rattle.broker.specs.declared.link.Backlog.the-variants.{Clear, Marked}
 use Rattle.broker.specs.declared.link.Connection.{Connection}
 use Rattle.broker.specs.declared.link.Connection.the-variants.{Closed, Open}

@@ -16,20 +16,65 @@ use Rattle.transit.specs.Message.{sameRank, isRank, ranks, cells}
 use Rattle.transit.specs.Unread.{Unread}
 use Rattle.transit.specs.declared.Rank.{Rank}
 use Rattle.broker.specs.Connect.{call, route, part, withdraw}
-use Rattle.broker.specs.Laws.Accepted.{One, StartFits, CallFits, RouteFits, MoveFits, LandFits, EndFits, start-fits, call-fits}
-use Rattle.broker.specs.Laws.Accepted.{route-fits, move-fits, land-fits, end-fits, running-not-ended, migrating-not-ended}
+use Rattle.broker.specs.Laws.Accepted.{
+  One,
+  StartFits,
+  CallFits,
+  RouteFits,
+  MoveFits,
+  LandFits,
+  EndFits,
+  start-fits,
+  call-fits,
+  route-fits,
+  move-fits,
+  land-fits,
+  end-fits,
+  running-not-ended,
+  migrating-not-ended,
+}
 use Rattle.broker.specs.Laws.Cases.{chosen-at, route-cases, drain-cases}
 use Rattle.base.specs.Laws.Stores.{long-set}
 use Rattle.broker.specs.Checks.{refusal}
 use Rattle.broker.specs.Laws.Each.{announced-own, announced-other}
 use Rattle.broker.specs.Laws.Kept.Shape.{shape-with-locations, shape-with-drawn, shape-connect, shape-withdraw}
-use Rattle.broker.specs.Laws.Names.{sameVmid-swap, noneShared-swap, next-apart, drawn-after, still-drawn, next-drawn, endpoint-in}
-use Rattle.broker.specs.Laws.Names.{processes-in, processes-all, ofCall-wider}
+use Rattle.broker.specs.Laws.Names.{
+  sameVmid-swap,
+  noneShared-swap,
+  next-apart,
+  drawn-after,
+  still-drawn,
+  next-drawn,
+  endpoint-in,
+  processes-in,
+  processes-all,
+  ofCall-wider,
+}
 use Rattle.broker.specs.Laws.Sound.{Shape, Names, Facts}
-use Rattle.broker.specs.Laws.State.{sameRank-eq, sameRank-self, cell-set, status-with, request-with-status, request-with}
-use Rattle.broker.specs.Laws.State.{status-with-request}
-use Rattle.broker.specs.State.{nextVmid, draw, State, cell, status, request, location, drawnOn, withStatus, withRequest}
-use Rattle.broker.specs.State.{withLocations, withLinks, withUnread}
+use Rattle.broker.specs.Laws.State.{
+  sameRank-eq,
+  sameRank-self,
+  cell-set,
+  status-with,
+  request-with-status,
+  request-with,
+  status-with-request,
+}
+use Rattle.broker.specs.State.{
+  nextVmid,
+  draw,
+  State,
+  cell,
+  status,
+  request,
+  location,
+  drawnOn,
+  withStatus,
+  withRequest,
+  withLocations,
+  withLinks,
+  withUnread,
+}
 use Rattle.broker.specs.Life.{announced, start, end}
 use Rattle.broker.specs.Messages.{send, take, look}
 use Rattle.broker.specs.Migrate.{move, heed, land}

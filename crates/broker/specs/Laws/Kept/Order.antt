@@ -9,12 +9,20 @@ use borrow.Author.Tests.{eqb-true, eqb-false}
 use lib.Dec.{eqb, leb}
 use lib.ListN.{length}
 use Rattle.base.specs.Lists.{select, every, without, neverFalls}
-use Rattle.base.specs.Laws.Lists.{every-append, every-map, every-without, every-changeFirst, every-selected, without-other, without-same}
-use Rattle.base.specs.Laws.Lists.{changeFirst-same, changeFirst-other}
-use Rattle.base.specs.Laws.Rising.{every-chosen, without-shorter, neverFalls-changeFirst}
+use Rattle.base.specs.Laws.Lists.{
+  every-append,
+  every-map,
+  every-without,
+  every-changeFirst,
+  every-selected,
+  without-other,
+  without-same,
+  changeFirst-same,
+  changeFirst-other,
+}
+use Rattle.base.specs.Laws.Rising.{every-chosen, without-shorter, neverFalls-changeFirst, neverFalls-append, neverFalls-without}
 use Rattle.base.specs.Laws.Tests.{by-test, both, both-left, both-right}
 use Rattle.transit.specs.Laws.Operations.{relabels-first}
-use Rattle.transit.specs.Laws.Order.{neverFalls-append, neverFalls-without}
 use Rattle.transit.specs.Laws.Pairs.{places, append-length, append-places, append-keeps-places, firstTo-length}
 use Rattle.transit.specs.Message.{number, sameRank, at, between, relabelled}
 use Rattle.transit.specs.Unread.{Unread, limit, counted, relabelFirst}

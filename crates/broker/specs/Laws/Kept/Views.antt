@@ -10,8 +10,16 @@ use borrow.Author.Tests.{eqb-true, lt-ltb}
 use lib.Dec.{eqb}
 use lib.ListN.{length, length-map}
 use Rattle.transit.specs.Laws.Operations.{appends, relabels, relabels-first, removes}
-use Rattle.base.specs.Laws.Lists.{every-always, every-append, every-changeFirst, every-map, every-without, every-wider, none-passes}
-use Rattle.base.specs.Laws.Lists.{select-map}
+use Rattle.base.specs.Laws.Lists.{
+  every-always,
+  every-append,
+  every-changeFirst,
+  every-map,
+  every-without,
+  every-wider,
+  none-passes,
+  select-map,
+}
 use Rattle.base.specs.Laws.Tests.{by-test, both, both-left, both-right, not-both, same-either, if-so}
 use Rattle.base.specs.Lists.{every, changeEach, select}
 use Rattle.broker.specs.Checks.{refusal}
