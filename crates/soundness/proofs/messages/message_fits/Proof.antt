@@ -4,9 +4,5 @@ use borrow.Author.Needs.{needs}
 use Rattle.soundness.proofs.messages.message_fits.Statement.{statement}
 use Rattle.soundness.proofs.messages.message_fits.Tie as tie
 
-returns : tie.Need-returns
-returns c = rw (c .place-fits .ensures, c .before .is-live .ensures, c .before .before .is-started .ensures)
-
 pub message-fits-spec : {M : Type 1} → statement M
-message-fits-spec =
-    tie.close (tie.spec (search needs) (search needs) (search needs) returns)
+message-fits-spec = tie.close (tie.spec (search needs) (search needs) (search needs) (λ c. cc))

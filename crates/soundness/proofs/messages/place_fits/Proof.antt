@@ -4,16 +4,5 @@ use borrow.Author.Needs.{needs}
 use Rattle.soundness.proofs.messages.place_fits.Statement.{statement}
 use Rattle.soundness.proofs.messages.place_fits.Tie as tie
 
-returns : tie.Need-returns
-returns c =
-    rw (
-      c .is-closed .ensures,
-      c .before .is-clear .ensures,
-      c .before .before .is-migrating .ensures,
-      c .before .before .before .is-unheeded .ensures,
-      c .before .before .before .before .number .ensures,
-    )
-
 pub place-fits-spec : {M : Type 1} → statement M
-place-fits-spec =
-    tie.close (tie.spec (search needs) (search needs) (search needs) (search needs) (search needs) returns)
+place-fits-spec = tie.close (tie.spec (search needs) (search needs) (search needs) (search needs) (search needs) (λ c. cc))

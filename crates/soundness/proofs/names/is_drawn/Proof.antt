@@ -6,11 +6,9 @@ use Rattle.soundness.proofs.names.is_drawn.Statement.{statement}
 use Rattle.soundness.proofs.names.is_drawn.Tie as tie
 
 returns : tie.Need-returns
-returns c = rw (lt-ltb _ _ (c .before .before .before .if1 .taken))
-
-returns-2 : tie.Need-returns-2
-returns-2 c = rw (le-ltb _ _ (c .if1 .left))
+returns c =
+    let test = c .before .before .before in
+    rw (lt-ltb _ _ (test .if1 .taken))
 
 pub is-drawn-spec : {M : Type 1} → statement M
-is-drawn-spec =
-    tie.close (tie.spec (search needs) (search needs) (search needs) returns returns-2)
+is-drawn-spec = tie.close (tie.spec (search needs) (search needs) (search needs) returns (λ c. rw (le-ltb _ _ (c .if1 .left))))

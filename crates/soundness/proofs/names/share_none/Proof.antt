@@ -5,13 +5,12 @@ use borrow.Author.Needs.{needs}
 use Rattle.soundness.proofs.names.share_none.Statement.{statement}
 use Rattle.soundness.proofs.names.share_none.Tie as tie
 
-returns-2 : tie.Need-returns-2
-returns-2 c = rw (c .before .before .one .given .1, c .is-free .ensures, and-true)
-
 returns-3 : tie.Need-returns-3
-returns-3 c = rw (c .before .before .before .one2 .given .1, c .is-free3 .ensures, c .before .is-free2 .ensures, and-true)
+returns-3 c =
+    let arm = c .before .before .before in
+    rw (arm .one2 .given .1, c .is-free3 .ensures, c .before .is-free2 .ensures, and-true)
 
 pub share-none-spec : {M : Type 1} → statement M
 share-none-spec =
-    tie.close (tie.spec (search needs) (search needs) (search needs) (search needs) (search needs) (search needs)
-    (search needs) (λ c. search needs) returns-2 returns-3 (λ c. search needs))
+    tie.close (tie.spec (search needs) (search needs) (search needs) (search needs) (search needs) (search needs) (search needs)
+    (λ c. search needs) (λ c. rw (c .before .before .one .given .1, c .is-free .ensures, and-true)) returns-3 (λ c. search needs))

@@ -4,12 +4,10 @@ use borrow.Author.Needs.{needs}
 use Rattle.soundness.proofs.pairs.location_fits.Statement.{statement}
 use Rattle.soundness.proofs.pairs.location_fits.Tie as tie
 
-returns : tie.Need-returns
-returns c = rw (← c .before .before .is-started .ensures, c .before .if1 .taken, c .is-drawn .ensures)
-
 returns-2 : tie.Need-returns-2
-returns-2 c = rw (← c .before .before .before .is-started .ensures, c .before .before .if1 .left, c .same .ensures, c .before .unknown .ensures)
+returns-2 c =
+    let started = c .before .before .before .is-started in
+    rw (← started .ensures, c .before .before .if1 .left, c .same .ensures, c .before .unknown .ensures)
 
 pub location-fits-spec : {M : Type 1} → statement M
-location-fits-spec =
-    tie.close (tie.spec (search needs) (search needs) (search needs) (search needs) returns returns-2)
+location-fits-spec = tie.close (tie.spec (search needs) (search needs) (search needs) (search needs) (λ c. cc) returns-2)

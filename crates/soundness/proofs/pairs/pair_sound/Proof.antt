@@ -11,24 +11,16 @@ returns c =
     let names = c .before .before in
     let x = names .before .before .args in
     let nothing = sym (c .before .holds-nothing .ensures) ∙ c .if1 .taken in
-    rw (
-      names-decide (x .drawn) (x .a) (x .b) (x .p) (x .q) (x .location) (x .there) (x .back) nothing,
-      names .vmids-apart .ensures,
-      names .before .location-fits .ensures,
-    )
+    let decide = names-decide (x .drawn) (x .a) (x .b) (x .p) (x .q) (x .location) (x .there) (x .back) nothing in
+    rw (decide, names .vmids-apart .ensures, names .before .location-fits .ensures)
 
 returns-2 : tie.Need-returns-2
 returns-2 c =
-    let names = c .before .before .before .before .before in
-    rw (
-      c .request-fits .ensures,
-      c .before .backlog-fits .ensures,
-      c .before .before .connection-fits .ensures,
-      names .vmids-apart .ensures,
-      names .before .location-fits .ensures,
-    )
+    let line = c .before .before in
+    let names = line .before .before .before in
+    rw (c .request-fits .ensures, c .before .backlog-fits .ensures, line .connection-fits .ensures)
+    (rw (names .vmids-apart .ensures, names .before .location-fits .ensures))
 
 pub pair-sound-spec : {M : Type 1} → statement M
 pair-sound-spec =
-    tie.close (tie.spec (search needs) (search needs) (search needs) returns (search needs) (search needs)
-    (search needs) returns-2)
+    tie.close (tie.spec (search needs) (search needs) (search needs) returns (search needs) (search needs) (search needs) returns-2)

@@ -5,12 +5,7 @@ use borrow.Author.Needs.{needs}
 use Rattle.soundness.proofs.pairs.vmids_apart.Statement.{statement}
 use Rattle.soundness.proofs.pairs.vmids_apart.Tie as tie
 
-returns : tie.Need-returns
-returns c = rw (eq-eqb _ _ (c .before .if1 .taken), c .are-distinct .ensures)
-
-returns-2 : tie.Need-returns-2
-returns-2 c = rw (ne-eqb _ _ (c .before .if1 .left), c .share-none .ensures)
-
 pub vmids-apart-spec : {M : Type 1} → statement M
 vmids-apart-spec =
-    tie.close (tie.spec (search needs) (search needs) returns returns-2)
+    tie.close (tie.spec (search needs) (search needs) (λ c. rw (eq-eqb _ _ (c .before .if1 .taken), c .are-distinct .ensures))
+    (λ c. rw (ne-eqb _ _ (c .before .if1 .left), c .share-none .ensures)))

@@ -4,9 +4,5 @@ use borrow.Author.Needs.{needs}
 use Rattle.soundness.proofs.ranks.nothing_with_self.Statement.{statement}
 use Rattle.soundness.proofs.ranks.nothing_with_self.Tie as tie
 
-returns : tie.Need-returns
-returns c = rw (c .asks-for .ensures, c .before .is-clear .ensures, c .before .before .is-closed .ensures)
-
 pub nothing-with-self-spec : {M : Type 1} → statement M
-nothing-with-self-spec =
-    tie.close (tie.spec (search needs) (search needs) (search needs) returns)
+nothing-with-self-spec = tie.close (tie.spec (search needs) (search needs) (search needs) (λ c. cc))

@@ -4,14 +4,5 @@ use borrow.Author.Needs.{needs}
 use Rattle.soundness.proofs.ranks.rank_sound.Statement.{statement}
 use Rattle.soundness.proofs.ranks.rank_sound.Tie as tie
 
-returns : tie.Need-returns
-returns c =
-    rw (
-      c .nothing-with-self .ensures,
-      c .before .request-drawn .ensures,
-      c .before .before .vmids-drawn .ensures,
-    )
-
 pub rank-sound-spec : {M : Type 1} → statement M
-rank-sound-spec =
-    tie.close (tie.spec (search needs) (search needs) (search needs) returns)
+rank-sound-spec = tie.close (tie.spec (search needs) (search needs) (search needs) (λ c. cc))

@@ -4,9 +4,5 @@ use borrow.Author.Needs.{needs}
 use Rattle.soundness.proofs.ranks.request_drawn.Statement.{statement}
 use Rattle.soundness.proofs.ranks.request_drawn.Tie as tie
 
-returns-2 : tie.Need-returns-2
-returns-2 c = rw (c .before .before .before .request .given .1, c .is-drawn .ensures)
-
 pub request-drawn-spec : {M : Type 1} → statement M
-request-drawn-spec =
-    tie.close (tie.spec (search needs) (search needs) (search needs) (λ c. search needs) returns-2)
+request-drawn-spec = tie.close (tie.spec (search needs) (search needs) (search needs) (λ c. search needs) (λ c. cc))
