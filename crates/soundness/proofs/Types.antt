@@ -19,7 +19,8 @@ use Rattle.broker.specs.declared.state.Broker.{Broker}
 use Rattle.soundness.specs.Laws.Sound.{Typed}
 
 -- Within the limit as many messages are held as the count says.
-pub held-count : (t : Transit) (vs : List Val) → Is (Struct.Declared.row the-transit) t vs → t .count ≤ limit → length (unreadOf t .messages) ≡ t .count
+pub held-count : (t : Transit) (vs : List Val) → Is (Struct.Declared.row the-transit) t vs → t .count ≤ limit
+    → length (unreadOf t .messages) ≡ t .count
 held-count t vs good few =
     let slots : length (t .messages) ≡ 1024 = rw length-map at (good .1 .1 .0 .1 .0 .1) in
     rw (length-take, slots) (omega arith)

@@ -6,7 +6,21 @@ use Prim.Native.Nat.{ℕ}
 use lib.ListN.{getD}
 use Rattle.transit.specs.Message.{sameRank}
 use Rattle.transit.specs.declared.Rank.{Rank}
-use Rattle.broker.specs.Names.{unknown, sameVmid, isStarted, isRunning, isMigrating, isLive, processesOf, asksFor, isClosed, isOpen, isClosing, isClear, isUnheeded}
+use Rattle.broker.specs.Names.{
+  unknown,
+  sameVmid,
+  isStarted,
+  isRunning,
+  isMigrating,
+  isLive,
+  processesOf,
+  asksFor,
+  isClosed,
+  isOpen,
+  isClosing,
+  isClear,
+  isUnheeded,
+}
 use Rattle.broker.specs.Ranks.{everyPair}
 use Rattle.broker.specs.Sound.{noneShared, distinct}
 use Rattle.broker.specs.State.{idle, cell, linkAt}

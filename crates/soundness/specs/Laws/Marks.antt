@@ -1,78 +1,91 @@
 -- The pass by marks, each one more than a number, which leave 0 for a cell that had none: it is the pass by the numbers, and an
 -- element whose mark is the last one of its cell needs no test. Assumes nothing.
 use mathlib.Core.Path.{_≡_, refl, sym, _∙_}
-use mathlib.Core.Bool.{Bool, true}
+use mathlib.Core.Bool.{Bool, true, false, and-false}
 use mathlib.Core.List.{List, [], _∷_, map}
-use Prim.Native.Nat.{ℕ, _+_, _<_}
+use Prim.Native.Nat.{ℕ, _+_, _<_, _≤_}
 use native.Mathlib.Numerals.{add-one}
 use native.Mathlib.Omega.{arith}
-use borrow.Author.Tests.{eqb-true, eqb-false}
+use borrow.Author.Tests.{eqb-true, le-leb, lt-leb}
 use lib.Dec.{eqb, leb, leb·suc-suc}
-use lib.ListN.{length, getD, set, replicate, getD-replicate}
+use lib.ListN.{length, getD, set, replicate, length-replicate, getD-replicate}
 use lib.Seq.{set-getD}
-use Rattle.base.specs.Lists.{select, every, neverFalls}
+use Rattle.base.specs.Laws.Stores.{long-set}
 use Rattle.base.specs.Laws.Tests.{by-test, same-truth}
-use Rattle.soundness.specs.Laws.Rising.{rises-next, rises-fits, rises-sorted, rises-of, last-same, last-other}
+use Rattle.base.specs.Lists.{every, neverFalls}
+use Rattle.broker.specs.Laws.State.{getD-set}
+use Rattle.soundness.specs.Laws.Rising.{rises-tells, rises-of}
 use Rattle.soundness.specs.Messages.{rises}
 
-module _ {A : Type 0} (numberOf : A → ℕ) where
-  -- one more than an element's number
-  abbrev pub markOf : A → ℕ
-  markOf x = numberOf x + 1
+-- one more than an element's number
+abbrev pub markOf : {A : Type 0} → (A → ℕ) → A → ℕ
+markOf numberOf x = numberOf x + 1
 
+-- the pass by marks stands before the rest with the answer still open: named elements whose mark is the last one of their cell fit
+pub record Passing {A : Type 0} (fits named : A → Bool) (cellOf numberOf : A → ℕ) (n : ℕ)
+    (answer : Bool) (last : List ℕ) (rest : List A) : Type 0 where
+  pub long : length last ≡ n
+  pub tested : (x : A) → named x ≡ true → getD last (cellOf x) 0 ≡ markOf numberOf x → fits x ≡ true
+  pub same : rises fits cellOf (markOf numberOf) last rest ≡ answer
+
+module _ {A : Type 0} (numberOf : A → ℕ) where
   -- No mark of a list is below a mark where no number is below its number.
-  every-more : (n : ℕ) (l : List A) → every (leb (n + 1)) (map markOf l) ≡ every (leb n) (map numberOf l)
+  every-more : (n : ℕ) (l : List A) → every (leb (n + 1)) (map (markOf numberOf) l) ≡ every (leb n) (map numberOf l)
   every-more n [] = refl
   every-more n (x ∷ l) = rw (add-one n, add-one (numberOf x), leb·suc-suc, ← add-one n, every-more n l)
 
   -- Marks fall where the numbers do.
-  marks-fall : (l : List A) → neverFalls (map markOf l) ≡ neverFalls (map numberOf l)
+  marks-fall : (l : List A) → neverFalls (map (markOf numberOf) l) ≡ neverFalls (map numberOf l)
   marks-fall [] = refl
   marks-fall (x ∷ l) = rw (every-more (numberOf x) l, marks-fall l)
 
-module _ {A : Type 0} (fits : A → Bool) (cellOf numberOf : A → ℕ) where
-  -- the pass from the last marks of the cells
-  abbrev passes : List ℕ → List A → Bool
-  passes last l = rises fits cellOf (markOf numberOf) last l
+-- The pass by marks begins with the answer of the pass by numbers.
+pub pass-begins : {A : Type 0} (fits named : A → Bool) (cellOf numberOf : A → ℕ) (n : ℕ) → ((x : A) → fits x ≡ true → cellOf x < n)
+    → ((x : A) → named x ≡ true → cellOf x < n) → (answer : Bool) (l : List A) → rises fits cellOf numberOf (replicate n 0) l ≡ answer
+    → Passing fits named cellOf numberOf n answer (replicate n 0) l
+pass-begins fits named cellOf numberOf n inside below answer l same =
+    record {
+      long = length-replicate {A = ℕ} n 0;
+      tested = λ x name mark. absurd (omega (arith, mark, getD-replicate {A = ℕ} n (cellOf x) 0 0 (below x name)));
+      same =
+          same-truth _ _
+          (λ h.
+          let told = rises-tells fits cellOf (markOf numberOf) n inside l h in
+          rises-of fits cellOf numberOf n inside l (told .0) (λ k b. rw (marks-fall numberOf) at (told .1 k b)))
+          (λ h.
+          let told = rises-tells fits cellOf numberOf n inside l h in
+          rises-of fits cellOf (markOf numberOf) n inside l (told .0) (λ k b. rw (marks-fall numberOf) (told .1 k b))) ∙
+          same;
+    }
 
-  module _ (named : A → Bool) where
-    -- each element that is named, and whose mark is the last one of its cell, fits
-    abbrev pub Tested : List ℕ → Type 0
-    Tested last = (x : A) → named x ≡ true → getD last (cellOf x) 0 ≡ markOf numberOf x → fits x ≡ true
+module _ {A : Type 0} {fits named : A → Bool} {cellOf numberOf : A → ℕ} {n : ℕ} {answer : Bool} {last : List ℕ} {x : A} {rest : List A}
+    (p : Passing fits named cellOf numberOf n answer last (x ∷ rest)) where
+  -- An element that does not fit decides.
+  pub pass-unfit : fits x ≡ false → false ≡ answer
+  pass-unfit unfit = rw unfit at (p .same)
 
-    -- Where no cell has a mark there is no such element.
-    pub none-tested : (n : ℕ) → ((x : A) → named x ≡ true → cellOf x < n) → Tested (replicate n 0)
-    none-tested n below x name same = absurd (omega (arith, same, getD-replicate {A = ℕ} n (cellOf x) 0 0 (below x name)))
+  -- So does a mark below the last one of its cell.
+  pub pass-falls : markOf numberOf x < getD last (cellOf x) 0 → false ≡ answer
+  pass-falls falls = rw (lt-leb _ _ falls, and-false) at (p .same)
 
-    -- Such an element is passed, and leaves the last marks as they are.
-    pub passed-again : (last : List ℕ) (x : A) (l : List A) → Tested last → named x ≡ true → getD last (cellOf x) 0 ≡ markOf numberOf x
-        → passes last (x ∷ l) ≡ passes last l
-    passed-again last x l tested name same =
-        rises-next fits cellOf (markOf numberOf) last x l (tested x name same) (omega arith) ∙ rw (← same, set-getD)
+  -- A named element whose mark is the last one of its cell is passed untested.
+  pub pass-again : named x ≡ true → getD last (cellOf x) 0 ≡ markOf numberOf x → Passing fits named cellOf numberOf n answer last rest
+  pass-again name mark =
+      let above = le-leb (getD last (cellOf x) 0) (markOf numberOf x) (omega arith) in
+      record { long = p .long; tested = p .tested; same = rw (p .tested x name mark, above, ← mark, set-getD) at (p .same) }
 
-  module _ (n : ℕ) (inside : (x : A) → fits x ≡ true → cellOf x < n) where
-    -- After an element that fits, too, each such element fits, where elements of one cell and one number fit alike.
-    pub tested-next : (named : A → Bool)
-        → ((x y : A) → fits x ≡ true → named y ≡ true → cellOf x ≡ cellOf y → numberOf x ≡ numberOf y → fits y ≡ true)
-        → (last : List ℕ) (x : A) → length last ≡ n → Tested named last → fits x ≡ true
-        → Tested named (set last (cellOf x) (markOf numberOf x))
-    tested-next named alike last x long tested fit y name same =
-        by-test (eqb (cellOf x) (cellOf y))
-        (λ e.
-        let cells = eqb-true (cellOf x) (cellOf y) e in
-        let mark = last-same fits cellOf (markOf numberOf) n inside last x (cellOf y) long fit cells in
-        alike x y fit name cells (omega arith))
-        (λ e.
-        let kept = last-other fits cellOf (markOf numberOf) n inside last x (cellOf y) (eqb-false (cellOf x) (cellOf y) e) in
-        tested y name (sym kept ∙ same))
-
-    -- The pass by marks goes through where the pass by numbers does.
-    pub by-marks : (l : List A) → passes (replicate n 0) l ≡ rises fits cellOf numberOf (replicate n 0) l
-    by-marks l =
-        same-truth _ _
-        (λ h.
-        rises-of fits cellOf numberOf n inside l (rises-fits fits cellOf (markOf numberOf) _ l h)
-        (λ k _. sym (marks-fall numberOf (select (λ x. eqb (cellOf x) k) l)) ∙ rises-sorted fits cellOf (markOf numberOf) n inside l h k))
-        (λ h.
-        rises-of fits cellOf (markOf numberOf) n inside l (rises-fits fits cellOf numberOf _ l h)
-        (λ k _. marks-fall numberOf (select (λ x. eqb (cellOf x) k) l) ∙ rises-sorted fits cellOf numberOf n inside l h k))
+  -- Any other that fits is passed, where elements of one cell and one number fit alike.
+  pub pass-next : ((y : A) → fits y ≡ true → cellOf y < n)
+      → ((y z : A) → fits y ≡ true → named z ≡ true → cellOf y ≡ cellOf z → numberOf y ≡ numberOf z → fits z ≡ true)
+      → fits x ≡ true → getD last (cellOf x) 0 ≤ markOf numberOf x
+      → Passing fits named cellOf numberOf n answer (set last (cellOf x) (markOf numberOf x)) rest
+  pass-next inside alike fit above =
+      record {
+        long = long-set n last (cellOf x) (markOf numberOf x) (p .long);
+        tested = λ y name mark.
+            let last-one = rw (getD-set last (cellOf x) (cellOf y) (markOf numberOf x) 0 (rw (p .long) (inside x fit))) at mark in
+            by-test (eqb (cellOf y) (cellOf x))
+            (λ e. alike x y fit name (sym (eqb-true (cellOf y) (cellOf x) e)) (omega (arith, rw e at last-one)))
+            (λ e. p .tested y name (rw e at last-one));
+        same = rw (fit, le-leb _ _ above) at (p .same);
+      }

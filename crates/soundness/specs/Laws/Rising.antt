@@ -1,108 +1,95 @@
 -- The pass that keeps the last number of each cell: it goes through where each element fits and, within each cell, numbers never fall.
 -- Assumes nothing.
 use mathlib.Core.Path.{_≡_, refl, sym, _∙_}
-use mathlib.Core.Bool.{Bool, true, false, and-false}
+use mathlib.Core.Bool.{Bool, true, not, _&&_, _||_, and-false}
 use mathlib.Core.List.{List, [], _∷_, map}
-use Prim.Native.Nat.{ℕ, _<_, _≤_}
+use Prim.Native.Nat.{ℕ, _<_}
 use native.Mathlib.Omega.{arith}
-use borrow.Author.Tests.{eqb-true, eqb-false, eq-eqb, leb-true, le-leb, lt-leb}
+use borrow.Author.Tests.{eqb-true, eqb-false, eq-eqb, leb-true, le-leb}
 use lib.Dec.{eqb, leb, leb·zero}
-use lib.ListN.{length, getD, set, replicate, length-set, length-replicate, getD-replicate}
+use lib.ListN.{length, getD, set, replicate, length-replicate, getD-replicate}
 use lib.Seq.{getD-set-same, getD-set-other}
-use Rattle.base.specs.Lists.{select, every, neverFalls}
 use Rattle.base.specs.Laws.Lists.{every-wider, every-always}
+use Rattle.base.specs.Laws.Stores.{long-set}
 use Rattle.base.specs.Laws.Tests.{by-test, both, both-left, both-right}
+use Rattle.base.specs.Lists.{select, every, neverFalls}
 use Rattle.soundness.specs.Messages.{rises}
 
--- Numbers that never fall still do not after a number that is not above the first.
-neverFalls-before : (d x : ℕ) (l : List ℕ) → leb d x ≡ true → neverFalls (x ∷ l) ≡ true → neverFalls (d ∷ x ∷ l) ≡ true
-neverFalls-before d x l below sorted =
-    let above = every-wider (leb x) (leb d) (λ y h. le-leb d y (omega (arith, leb-true x y h, leb-true d x below))) l (both-left (every (leb x) l) _ sorted) in
-    both (both below above) sorted
-
--- Nothing falls from 0.
-neverFalls-from-zero : (l : List ℕ) → neverFalls (0 ∷ l) ≡ neverFalls l
-neverFalls-from-zero l = rw (every-always (leb 0) leb·zero l)
+-- Numbers never fall from one on where the next is not below it, and they do not from there on.
+falls-step : (d x : ℕ) (l : List ℕ) → neverFalls (d ∷ x ∷ l) ≡ (leb d x && neverFalls (x ∷ l))
+falls-step d x l =
+    by-test (leb d x)
+    (λ e. by-test (every (leb x) l)
+    (λ f. rw (e, f, every-wider (leb x) (leb d) (λ y h. le-leb d y (omega (arith, leb-true x y h, leb-true d x e))) l f))
+    (λ f. rw (e, f, and-false)))
+    (λ e. rw e)
 
 -- the numbers of a cell, in order
 abbrev pub numbersIn : {A : Type 0} → (A → ℕ) → (A → ℕ) → ℕ → List A → List ℕ
 numbersIn cellOf numberOf k l = map numberOf (select (λ x. eqb (cellOf x) k) l)
 
 module _ {A : Type 0} (fits : A → Bool) (cellOf numberOf : A → ℕ) where
-  -- the pass from the last numbers of the cells
-  abbrev passes : List ℕ → List A → Bool
-  passes last l = rises fits cellOf numberOf last l
+  -- the last numbers of the cells once an element is passed
+  abbrev next : List ℕ → A → List ℕ
+  next last x = set last (cellOf x) (numberOf x)
 
-  -- An element that does not fit ends the pass.
-  pub rises-unfit : (last : List ℕ) (x : A) (l : List A) → fits x ≡ false → passes last (x ∷ l) ≡ false
-  rises-unfit last x l unfit = rw unfit
+  -- an element's number is not below the last one of a cell, if that is its cell
+  abbrev above : List ℕ → A → ℕ → Bool
+  above last x k = not (eqb (cellOf x) k) || leb (getD last k 0) (numberOf x)
 
-  -- So does a number below the last one of its cell.
-  pub rises-falls : (last : List ℕ) (x : A) (l : List A) → numberOf x < getD last (cellOf x) 0 → passes last (x ∷ l) ≡ false
-  rises-falls last x l falls = rw (lt-leb _ _ falls, and-false)
-
-  -- Any other element is passed, and its number is the last one of its cell.
-  pub rises-next : (last : List ℕ) (x : A) (l : List A) → fits x ≡ true → getD last (cellOf x) 0 ≤ numberOf x
-      → passes last (x ∷ l) ≡ passes (set last (cellOf x) (numberOf x)) l
-  rises-next last x l fit above = rw (fit, le-leb _ _ above)
-
-  -- Where the pass goes through, each element fits.
-  pub rises-fits : (last : List ℕ) (l : List A) → passes last l ≡ true → every fits l ≡ true
-  rises-fits last [] h = refl
-  rises-fits last (x ∷ l) h =
-      both (both-left (fits x) _ h)
-      (rises-fits (set last (cellOf x) (numberOf x)) l (both-right (leb (getD last (cellOf x) 0) (numberOf x)) _ (both-right (fits x) _ h)))
+  -- the numbers of a cell never fall, from the last one before
+  abbrev sorted : List ℕ → List A → ℕ → Bool
+  sorted last l k = neverFalls (getD last k 0 ∷ numbersIn cellOf numberOf k l)
 
   module _ (n : ℕ) (inside : (x : A) → fits x ≡ true → cellOf x < n) where
-    -- An element's number is the last one of its cell once it is passed.
-    pub last-same : (last : List ℕ) (x : A) (k : ℕ) → length last ≡ n → fits x ≡ true → cellOf x ≡ k
-        → getD (set last (cellOf x) (numberOf x)) k 0 ≡ numberOf x
-    last-same last x k long fit same = rw (← same) (getD-set-same last (cellOf x) (numberOf x) 0 (rw long (inside x fit)))
-
-    -- In every other cell the last number stays.
-    pub last-other : (last : List ℕ) (x : A) (k : ℕ) → (cellOf x ≡ k → ⊥)
-        → getD (set last (cellOf x) (numberOf x)) k 0 ≡ getD last k 0
-    last-other last x k other = getD-set-other last (cellOf x) k (numberOf x) 0 (λ e. other (sym e))
-
-    -- Where the pass goes through, the numbers of each cell never fall, from the last one before.
-    sorted-after : (last : List ℕ) (l : List A) → length last ≡ n → passes last l ≡ true → (k : ℕ) → neverFalls (getD last k 0 ∷ numbersIn cellOf numberOf k l) ≡ true
-    sorted-after last [] long h k = refl
-    sorted-after last (x ∷ l) long h k =
-        let fit = both-left (fits x) _ h in
-        let above = both-left (leb (getD last (cellOf x) 0) (numberOf x)) _ (both-right (fits x) _ h) in
-        let others = both-right (leb (getD last (cellOf x) 0) (numberOf x)) _ (both-right (fits x) _ h) in
-        let rest = sorted-after (set last (cellOf x) (numberOf x)) l (length-set last (cellOf x) (numberOf x) ∙ long) others k in
+    -- They do not with one element more where that is not below the last number, and they do not from there on.
+    sorted-step : (last : List ℕ) (x : A) (l : List A) (k : ℕ) → length last ≡ n → fits x ≡ true
+        → sorted last (x ∷ l) k ≡ (above last x k && sorted (next last x) l k)
+    sorted-step last x l k long fit =
         by-test (eqb (cellOf x) k)
         (λ e.
-        let same = eqb-true (cellOf x) k e in
-        rw e (neverFalls-before (getD last k 0) (numberOf x) (numbersIn cellOf numberOf k l) (rw same at above) (rw (last-same last x k long fit same) at rest)))
-        (λ e. rw e (rw (last-other last x k (eqb-false (cellOf x) k e)) at rest))
+        let same = getD-set-same last (cellOf x) (numberOf x) 0 (rw long (inside x fit)) in
+        rw (e, ← eqb-true (cellOf x) k e, same) (falls-step (getD last (cellOf x) 0) (numberOf x) (numbersIn cellOf numberOf (cellOf x) l)))
+        (λ e. rw (e, getD-set-other last (cellOf x) k (numberOf x) 0 (λ same. eqb-false (cellOf x) k e (sym same))))
 
-    -- Where each element fits and the numbers of each cell never fall, from the last one before, the pass goes through.
-    rises-after : (last : List ℕ) (l : List A) → length last ≡ n → every fits l ≡ true → ((k : ℕ) → k < n → neverFalls (getD last k 0 ∷ numbersIn cellOf numberOf k l) ≡ true) → passes last l ≡ true
-    rises-after last [] long all sorted = refl
-    rises-after last (x ∷ l) long all sorted =
+    -- Where the pass goes through, each element fits, and the numbers of each cell never fall.
+    passed : (last : List ℕ) (l : List A) → length last ≡ n → rises fits cellOf numberOf last l ≡ true
+        → (every fits l ≡ true) × ((k : ℕ) → sorted last l k ≡ true)
+    passed last [] long h = (refl, λ k. refl)
+    passed last (x ∷ l) long h =
+        let fit = both-left (fits x) _ h in
+        let first = leb (getD last (cellOf x) 0) (numberOf x) in
+        let rises-on = both-right (fits x) _ h in
+        let rest = passed (next last x) l (long-set n last (cellOf x) (numberOf x) long) (both-right first _ rises-on) in
+        let here : (k : ℕ) → above last x k ≡ true =
+        λ k. by-test (eqb (cellOf x) k) (λ e. rw e (rw (eqb-true (cellOf x) k e) at (both-left first _ rises-on))) (λ e. rw e) in
+        (both fit (rest .0), λ k. rw (sorted-step last x l k long fit) (both (here k) (rest .1 k)))
+
+    -- Where each element fits and the numbers of each cell never fall, the pass goes through.
+    passes : (last : List ℕ) (l : List A) → length last ≡ n → every fits l ≡ true → ((k : ℕ) → k < n → sorted last l k ≡ true)
+        → rises fits cellOf numberOf last l ≡ true
+    passes last [] long all rising = refl
+    passes last (x ∷ l) long all rising =
         let fit = both-left (fits x) _ all in
-        let here : neverFalls (getD last (cellOf x) 0 ∷ numberOf x ∷ numbersIn cellOf numberOf (cellOf x) l) ≡ true = rw (eq-eqb (cellOf x) (cellOf x) refl) at (sorted (cellOf x) (inside x fit)) in
-        let above = both-left (leb (getD last (cellOf x) 0) (numberOf x)) _ (both-left (every (leb (getD last (cellOf x) 0)) (numberOf x ∷ numbersIn cellOf numberOf (cellOf x) l)) _ here) in
-        both fit
-        (both above
-        (rises-after (set last (cellOf x) (numberOf x)) l (length-set last (cellOf x) (numberOf x) ∙ long) (both-right (fits x) _ all) (after fit)))
-      where
-        after : fits x ≡ true → (k : ℕ) → k < n → neverFalls (getD (set last (cellOf x) (numberOf x)) k 0 ∷ numbersIn cellOf numberOf k l) ≡ true
-        after fit k below =
-            by-test (eqb (cellOf x) k)
-            (λ e. rw (last-same last x k long fit (eqb-true (cellOf x) k e)) (both-right (every (leb (getD last k 0)) (numberOf x ∷ numbersIn cellOf numberOf k l)) _ (rw e at (sorted k below))))
-            (λ e. rw (last-other last x k (eqb-false (cellOf x) k e)) (rw e at (sorted k below)))
+        let step : (k : ℕ) → k < n → (above last x k && sorted (next last x) l k) ≡ true =
+        λ k b. rw (sorted-step last x l k long fit) at (rising k b) in
+        let here = both-left (above last x (cellOf x)) _ (step (cellOf x) (inside x fit)) in
+        both fit (both (rw (eq-eqb (cellOf x) (cellOf x) refl) at here)
+        (passes (next last x) l (long-set n last (cellOf x) (numberOf x) long) (both-right (fits x) _ all)
+        (λ k b. both-right (above last x k) _ (step k b))))
 
-    -- From no number in any cell: where the pass goes through, the numbers of each cell never fall.
-    pub rises-sorted : (l : List A) → passes (replicate n 0) l ≡ true → (k : ℕ) → neverFalls (numbersIn cellOf numberOf k l) ≡ true
-    rises-sorted l h k =
-        both-right (every (leb (getD (replicate n 0) k 0)) (numbersIn cellOf numberOf k l)) _
-        (sorted-after (replicate n 0) l (length-replicate {A = ℕ} n 0) h k)
+    -- nothing falls from no number in any cell
+    from-zero : (l : List A) (k : ℕ) → k < n → sorted (replicate n 0) l k ≡ neverFalls (numbersIn cellOf numberOf k l)
+    from-zero l k b = rw (getD-replicate {A = ℕ} n k 0 0 b, every-always (leb 0) leb·zero (numbersIn cellOf numberOf k l))
 
-    -- And where each element fits and the numbers of each cell never fall, the pass goes through.
-    pub rises-of : (l : List A) → every fits l ≡ true → ((k : ℕ) → k < n → neverFalls (numbersIn cellOf numberOf k l) ≡ true) → passes (replicate n 0) l ≡ true
-    rises-of l all sorted =
-        rises-after (replicate n 0) l (length-replicate {A = ℕ} n 0) all
-        (λ k h. rw (getD-replicate {A = ℕ} n k 0 0 h) (neverFalls-from-zero (numbersIn cellOf numberOf k l) ∙ sorted k h))
+    -- From no number in any cell: what a pass that goes through tells,
+    pub rises-tells : (l : List A) → rises fits cellOf numberOf (replicate n 0) l ≡ true
+        → (every fits l ≡ true) × ((k : ℕ) → k < n → neverFalls (numbersIn cellOf numberOf k l) ≡ true)
+    rises-tells l h =
+        let told = passed (replicate n 0) l (length-replicate {A = ℕ} n 0) h in
+        (told .0, λ k b. sym (from-zero l k b) ∙ told .1 k)
+
+    -- and what lets it go through.
+    pub rises-of : (l : List A) → every fits l ≡ true → ((k : ℕ) → k < n → neverFalls (numbersIn cellOf numberOf k l) ≡ true)
+        → rises fits cellOf numberOf (replicate n 0) l ≡ true
+    rises-of l all rising = passes (replicate n 0) l (length-replicate {A = ℕ} n 0) all (λ k b. from-zero l k b ∙ rising k b)

@@ -7,7 +7,7 @@ use Prim.Native.Nat.{ℕ, _/_, _%_, _<_, _≤_}
 use native.Mathlib.Omega.{arith}
 use borrow.Author.Tests.{leb-true, le-leb}
 use lib.Dec.{leb}
-use lib.ListN.{length, replicate}
+use lib.ListN.{length}
 use Rattle.base.specs.Laws.Tests.{both, both-left, both-right, AllTrue, parts, chained, same-truth}
 use Rattle.base.specs.Lists.{neverFalls}
 use Rattle.base.specs.Laws.Lists.{every-wider}
@@ -21,7 +21,7 @@ use Rattle.broker.specs.Names.{numbers, isStarted, isMigrating, isLive, isClose
 use Rattle.broker.specs.Sound.{sound}
 use Rattle.broker.specs.State.{State, cell, status, request, location, connection, backlog, linkAt, drawnOn, messages}
 use Rattle.soundness.specs.Laws.Messages.{every-and, has-cell, pair-is-cell}
-use Rattle.soundness.specs.Laws.Rising.{numbersIn, rises-fits, rises-sorted, rises-of}
+use Rattle.soundness.specs.Laws.Rising.{numbersIn, rises-tells, rises-of}
 use Rattle.soundness.specs.Laws.Walk.{cell-of}
 use Rattle.soundness.specs.Messages.{messageSoundAt, pairOf, messagesSound}
 use Rattle.soundness.specs.Names.{vmidsDrawn}
@@ -167,8 +167,8 @@ module _ (s : State) where
       let l = messages s in
       let few = leb-true (s .unread .count) limit (both-left (leb (s .unread .count) limit) _ passes) in
       let pass = both-right (leb (s .unread .count) limit) _ passes in
-      let all = rises-fits messageTest pairOf number (replicate cells 0) l pass in
-      let rising = rises-sorted messageTest pairOf number cells (has-cell (s .processes) (s .links)) l pass in
+      let told = rises-tells messageTest pairOf number cells (has-cell (s .processes) (s .links)) l pass in
+      let all = told .0 in
       let named = every-wider messageTest isNamed (λ m h. both-left (isNamed m) _ h) l all in
       record {
         few = few;
@@ -177,7 +177,7 @@ module _ (s : State) where
         ends-fit = every-wider messageTest (hasEnds s) (λ m h. fits-of m h .0) l all;
         unheeded-places = every-wider messageTest (fitsUnheeded s) (λ m h. both-left (fitsUnheeded s m) _ (fits-of m h .1)) l all;
         places-fit = every-wider messageTest (fitsPlace s) (λ m h. both-right (fitsUnheeded s m) _ (fits-of m h .1)) l all;
-        places-rise = λ a b h k. rw (pair-is-cell a b k l named) at (rising (cell a b));
+        places-rise = λ a b h k. rw (pair-is-cell a b k l named) at (told .1 (cell a b) (omega arith));
       }
 
 -- Soundness is the three tests.
