@@ -4,4 +4,3 @@ pub mod Loaded
 pub mod Numbers
 pub mod Reads
 pub mod Stores
-pub mod Unloaded

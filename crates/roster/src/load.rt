@@ -1,13 +1,12 @@
 // Between the two forms of one state: a roster cleared, loaded from a state by value, and unloaded into one.
 // Paper 01, "Where each language form goes": the tables by value go row by row, a row an array of sixteen.
 ghost use mathlib.Core.Path.{_≡_};
-ghost use Prim.Native.Nat.{_+_, _*_, _<_};
+ghost use Prim.Native.Nat.{_<_};
 ghost use Rattle.transit.specs.Message.{ranks};
 ghost use Rattle.transit.specs.Unread.{nothing};
-ghost use Rattle.broker.specs.Names.{unknown};
 ghost use Rattle.broker.specs.State.{view, fresh, withLocations, withLinks, withUnread};
-ghost use Rattle.roster.specs.Loaded.{Filled, rowOf, rowIn, withProcesses, withAllDrawn};
-ghost use Rattle.roster.specs.Roster.{ranksOf, Holds, Whole, LOCATIONS};
+ghost use Rattle.roster.specs.Loaded.{rowOf, rowIn, withProcesses, withAllDrawn};
+ghost use Rattle.roster.specs.Roster.{ranksOf, Holds, Whole};
 use crate::DRAWN;
 use crate::LINKS;
 use crate::LOCATIONS;
@@ -82,22 +81,6 @@ fn row_of(locations: [Vmid; CELLS], a: usize) -> [Vmid; RANKS]
     row
 }
 
-// The table of the rank `a` goes into the roster.
-fn load_row(row: [Vmid; RANKS], a: usize, roster: &mut Roster)
-    requires { ⌜ Whole (now roster) ⌝ }
-    requires { ⌜ a < ranks ⌝ }
-    ensures { λ _. ⌜ Filled (rowIn a) unknown row ranks (LOCATIONS + ranks * a) (LOCATIONS + ranks + ranks * a) (now (roster .entry)) (now (roster .exit)) ⌝ }
-{
-    let into = LOCATIONS + RANKS * a;
-    let mut i: usize = 0;
-    while i < RANKS {
-        let v = row[i];
-        let w = encode_vmid(v);
-        roster[into + i] = w;
-        i += 1;
-    }
-}
-
 // All tables, row by row.
 fn load_locations(locations: [Vmid; CELLS], roster: &mut Roster)
     requires { ⌜ Whole (now roster) ⌝ }
@@ -106,7 +89,14 @@ fn load_locations(locations: [Vmid; CELLS], roster: &mut Roster)
     let mut a: usize = 0;
     while a < RANKS {
         let row = row_of(locations, a);
-        load_row(row, a, roster);
+        let into = RANKS * a;
+        let mut i: usize = 0;
+        while i < RANKS {
+            let v = row[i];
+            let w = encode_vmid(v);
+            roster[LOCATIONS + (into + i)] = w;
+            i += 1;
+        }
         a += 1;
     }
 }
@@ -181,14 +171,14 @@ fn processes_in(roster: &Roster) -> [Process; RANKS]
 fn row_in(a: usize, roster: &Roster) -> [Vmid; RANKS]
     requires { ⌜ Whole (now roster) ⌝ }
     requires { ⌜ a < ranks ⌝ }
-    ensures { λ row. ⌜ row ≡ rowOf a (ranksOf (now (roster .entry)) .locations) ⌝ }
+    ensures { λ row. ⌜ row ≡ rowIn a (now (roster .entry)) ⌝ }
 {
     let unknown = Vmid::unknown();
     let mut row = [unknown; RANKS];
-    let start = LOCATIONS + RANKS * a;
+    let start = RANKS * a;
     let mut i: usize = 0;
     while i < RANKS {
-        let v = decode_vmid(roster[start + i]);
+        let v = decode_vmid(roster[LOCATIONS + (start + i)]);
         row[i] = v;
         i += 1;
     }

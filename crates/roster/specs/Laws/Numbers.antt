@@ -1,9 +1,10 @@
 -- A standing, call or link stands for itself when it is written as a number and read back. Assumes nothing.
-use mathlib.Core.Logic.{_≢_}
 use mathlib.Core.Path.{_≡_, refl}
 use Prim.Native.Nat.{ℕ, _+_, _*_, _/_, _%_, _<_}
+use native.Mathlib.Nat.{zero-add, add-mul-mod-self-left, add-mul-div-left}
 use native.Mathlib.Omega.{arith}
 use borrow.Author.Tests.{ne-eqb}
+use lib.Dec.{lit<}
 use Rattle.broker.specs.Names.{vmid}
 use Rattle.transit.specs.Message.{rank}
 use Rattle.broker.specs.State.{apart}
@@ -24,32 +25,22 @@ pub link-zero : linkOf 0 ≡ apart
 unfolding linkOf
 link-zero = refl
 
-pub vmid-back : (host number : ℕ) → host < 256 → number < 65536 → vmidOf (host * 65536 + number) ≡ vmid host number
-vmid-back host number h n =
-    let high : (host * 65536 + number) / 65536 % 256 ≡ host = omega arith in
-    let low : (host * 65536 + number) % 65536 ≡ number = omega arith in
-    rw (high, low)
+-- two vmids of the same host and number are the same
+pub same-vmid : {h n h' n' : ℕ} → h ≡ h' → n ≡ n' → vmid h n ≡ vmid h' n'
+same-vmid host number = rw (host, number)
 
 -- what lies above a vmid's bits does not change it
-pub vmid-below : (n m : ℕ) → vmidOf (n + 16777216 * m) ≡ vmidOf n
-vmid-below n m =
-    let high : (n + 16777216 * m) / 65536 % 256 ≡ n / 65536 % 256 = omega arith in
-    let low : (n + 16777216 * m) % 65536 ≡ n % 65536 = omega arith in
-    rw (high, low)
+vmid-below : (n m : ℕ) → vmidOf (n + 16777216 * m) ≡ vmidOf n
+vmid-below n m = same-vmid (omega arith) (omega arith)
 
+-- a status that was written is read back
 pub running-back : (n : ℕ) → statusOf (1 + 4 * n) ≡ Running (vmidOf n)
 unfolding statusOf
-running-back n =
-    let tag : (1 + 4 * n) % 4 ≡ 1 = omega arith in
-    let rest : (1 + 4 * n) / 4 ≡ n = omega arith in
-    rw (tag, rest)
+running-back n = rw (add-mul-mod-self-left 1 4 n, add-mul-div-left 1 n (lit< tt), zero-add)
 
 pub ended-back : (n : ℕ) → statusOf (2 + 4 * n) ≡ Ended (vmidOf n)
 unfolding statusOf
-ended-back n =
-    let tag : (2 + 4 * n) % 4 ≡ 2 = omega arith in
-    let rest : (2 + 4 * n) / 4 ≡ n = omega arith in
-    rw (tag, rest)
+ended-back n = rw (add-mul-mod-self-left 2 4 n, add-mul-div-left 2 n (lit< tt), zero-add)
 
 pub migrating-back : (n m : ℕ) → n < 16777216 → statusOf (3 + 4 * n + 67108864 * m) ≡ Migrating (vmidOf n) (vmidOf m)
 unfolding statusOf
@@ -62,10 +53,9 @@ migrating-back n m small =
 pub posted-back : (r n : ℕ) → r < 256 → requestOf (4294967296 + r + 256 * n) ≡ Posted (rank r) (vmidOf n)
 unfolding requestOf
 posted-back r n small =
-    let some : 4294967296 + r + 256 * n ≢ 0 = λ e. omega arith in
     let low : (4294967296 + r + 256 * n) % 256 ≡ r = omega arith in
     let high : (4294967296 + r + 256 * n) / 256 ≡ n + 16777216 * 1 = omega arith in
-    rw (ne-eqb _ 0 some, low, high, vmid-below n 1)
+    rw (ne-eqb (4294967296 + r + 256 * n) 0 (λ e. omega arith), low, high, vmid-below n 1)
 
 pub link-back : (n m : ℕ) → n < 3 → linkOf (n + 4 * m) ≡ record { connection = lineOf n; backlog = awaitOf m }
 unfolding linkOf

@@ -1,15 +1,24 @@
 -- `roster::load::load_locations` meets its contract. The loop's invariant: the tables so far are filled in. Assumes nothing.
-use mathlib.Core.Path.{_≡_, _∙_}
-use Prim.Native.Nat.{_*_, _≤_, _-_}
+use mathlib.Core.Path.{_∙_}
+use Prim.Native.Nat.{_+_, _*_, _≤_, _-_}
 use native.Mathlib.Omega.{arith}
 use borrow.Author.Needs.{needs}
-use Rattle.transit.specs.Message.{ranks, cells}
+use Rattle.base.specs.Laws.Tabulate.{tabulate-at}
+use Rattle.transit.specs.Message.{ranks}
 use Rattle.broker.specs.Names.{unknown}
-use Rattle.roster.specs.Laws.Loaded.{fill-none, fill-row, locations-loaded}
+use Rattle.roster.specs.Laws.Loaded.{fill-none, fill-next, fill-from, fill-joined, locations-loaded}
 use Rattle.roster.specs.Loaded.{Filled}
+use Rattle.roster.specs.Numbers.{vmidOf}
 use Rattle.roster.specs.Roster.{locationIn, LOCATIONS, LINKS}
 use Rattle.roster.proofs.load.load_locations.Statement.{statement}
 use Rattle.roster.proofs.load.load_locations.Tie as tie
+
+abbrev Inv-loop2 : tie.InvT-loop2
+Inv-loop2 locations roster₀ a row into i₀ roster i =
+    (i ≤ ranks) × Filled locationIn unknown locations (ranks * a + i) LOCATIONS LINKS roster₀ roster
+
+abbrev μ-loop2 : tie.MeasureT-loop2
+μ-loop2 locations roster₀ a row into i₀ roster i = ranks - i
 
 abbrev Inv-loop : tie.InvT-loop
 Inv-loop locations roster₀ a₀ roster a = (a ≤ ranks) × Filled locationIn unknown locations (ranks * a) LOCATIONS LINKS roster₀ roster
@@ -17,27 +26,24 @@ Inv-loop locations roster₀ a₀ roster a = (a ≤ ranks) × Filled locationIn 
 abbrev μ-loop : tie.MeasureT-loop
 μ-loop locations roster₀ a₀ roster a = ranks - a
 
-loop-holds : tie.Need-loop-holds Inv-loop μ-loop
-loop-holds c = (omega arith, fill-none locationIn unknown _ LOCATIONS LINKS _)
+loop2-again : tie.Need-loop2-again Inv-loop2 μ-loop2 Inv-loop μ-loop
+loop2-again c =
+    let inner = c .before .before .before in
+    let row = inner .before .row-of .ensures in
+    let entry = rw row at (c .encode-vmid .ensures .0) ∙ tabulate-at ranks _ (inner .loop2 .i) unknown (omega arith) in
+    (omega arith, fill-next vmidOf LOCATIONS (inner .loop2 .inv .1) (omega arith) (omega arith) entry (omega arith))
 
-load-row-requires : tie.Need-load-row-requires Inv-loop μ-loop
-load-row-requires c κs =
-    let head = c .before .before .before in
-    (head .loop .inv .1 .long ∙ head .before .pre, omega arith)
+returns : tie.Need-returns Inv-loop2 μ-loop2 Inv-loop μ-loop
+returns c = locations-loaded (c .before .before .good .0 .1 .0 .1) (omega arith) (c .before .loop .inv .1)
 
-loop-again : tie.Need-loop-again Inv-loop μ-loop
+loop-again : tie.Need-loop-again Inv-loop2 μ-loop2 Inv-loop μ-loop
 loop-again c =
     let head = c .before .before .before .before in
-    let row = rw (c .before .before .row-of .ensures) at (c .load-row .ensures) in
-    (omega arith, fill-row (head .before .args .locations) (head .loop .a) _ _ _ (head .loop .inv .1) row (omega arith))
-
-returns : tie.Need-returns Inv-loop μ-loop
-returns c =
-    let start = c .before .before in
-    let done : ranks * c .before .loop .a ≡ cells = omega arith in
-    locations-loaded _ _ (start .pre) (start .args .locations) (start .good .0 .1 .0 .1) (rw done at (c .before .loop .inv .1))
+    (omega arith, fill-joined (head .loop .inv .1) (c .before .loop2 .inv .1) (omega arith))
 
 pub load-locations-spec : {M : Type 1} → statement M
 load-locations-spec =
-    tie.close (tie.spec Inv-loop μ-loop loop-holds (search needs) load-row-requires (search needs) (search needs)
+    tie.close (tie.spec Inv-loop2 μ-loop2 Inv-loop μ-loop (λ c. (omega arith, fill-none (c .pre))) (search needs) (search needs)
+    (λ c. (omega arith, fill-from (c .before .before .loop .inv .1) (omega arith))) (search needs) (search needs) (search needs)
+    (search needs) (search needs) (search needs) (search needs) (search needs) (search needs) loop2-again (search needs) (search needs)
     loop-again returns)

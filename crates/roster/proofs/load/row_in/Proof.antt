@@ -1,47 +1,29 @@
 -- `roster::load::row_in` meets its contract. The loop's invariant: so many entries of the row are copied. Assumes nothing.
-use mathlib.Core.Path.{_≡_, refl, sym, _∙_}
-use Prim.Native.Nat.{_≤_, _-_}
+use mathlib.Core.Path.{refl, sym}
+use Prim.Native.Nat.{_+_, _*_, _-_}
 use native.Mathlib.Omega.{arith}
 use borrow.Author.Needs.{needs}
-use lib.ListN.{length, length-set}
 use Rattle.transit.specs.Message.{ranks}
 use Rattle.broker.specs.Names.{unknown}
-use Rattle.roster.specs.Laws.Loaded.{copied-next}
-use Rattle.roster.specs.Laws.Unloaded.{row-unloaded}
-use Rattle.roster.specs.Loaded.{rowIn, Copied}
+use Rattle.roster.specs.Laws.Loaded.{copy-none, copy-next, copy-whole}
+use Rattle.roster.specs.Loaded.{Copying}
+use Rattle.roster.specs.Roster.{locationIn}
 use Rattle.roster.proofs.load.row_in.Statement.{statement}
 use Rattle.roster.proofs.load.row_in.Tie as tie
 
 abbrev Inv-loop : tie.InvT-loop
-Inv-loop a roster row₀ start i₀ row i = (i ≤ ranks) × (length row ≡ ranks) × Copied (rowIn a roster) unknown i row
+Inv-loop a roster row₀ start i₀ row i = Copying (λ k. locationIn roster (ranks * a + k)) unknown ranks i row
 
 abbrev μ-loop : tie.MeasureT-loop
 μ-loop a roster row₀ start i₀ row i = ranks - i
 
-loop-holds : tie.Need-loop-holds Inv-loop μ-loop
-loop-holds c = (omega arith, refl, λ k b. absurd (omega arith))
-
 loop-again : tie.Need-loop-again Inv-loop μ-loop
 loop-again c =
     let head = c .before .before .before in
-    let args = head .before .before .args in
-    let i = head .loop .i in
-    let row = head .loop .row in (
-      omega arith,
-      length-set row i _ ∙ head .loop .inv .1,
-      copied-next (rowIn (args .a) (args .roster .now)) unknown i row _ (omega arith) (sym (c .decode-vmid .ensures)) (head .loop .inv .2),
-    )
-
-returns : tie.Need-returns Inv-loop μ-loop
-returns c =
-    let head = c .before in
-    let start = head .before .before in
-    let done : head .loop .i ≡ ranks = omega arith in
-    row-unloaded (start .args .roster .now) (start .args .a) (start .pre .1) (head .loop .row) (head .loop .inv .1)
-    (rw done at (head .loop .inv .2))
+    copy-next (head .loop .inv) (omega arith) (sym (c .decode-vmid .ensures))
 
 pub row-in-spec : {M : Type 1} → statement M
 row-in-spec =
-    tie.close (tie.spec Inv-loop μ-loop (search needs) (search needs) (search needs) loop-holds (search needs)
-    (search needs) (search needs) (search needs) (search needs) (search needs) (search needs) (search needs) loop-again
-    returns)
+    tie.close (tie.spec Inv-loop μ-loop (search needs) (search needs) (λ c. copy-none refl) (search needs) (search needs) (search needs)
+    (search needs) (search needs) (search needs) (search needs) (search needs) (search needs) loop-again
+    (λ c. copy-whole (c .before .loop .inv) (omega arith)))

@@ -1,17 +1,9 @@
 -- `roster::numbers::decode_await` meets its contract. Assumes nothing.
-use borrow.Author.Tests.{eq-eqb, ne-eqb}
+use borrow.Author.Tests.{ne-eqb}
 use Rattle.roster.proofs.numbers.decode_await.Statement.{statement}
 use Rattle.roster.proofs.numbers.decode_await.Tie as tie
 
-returns : tie.Need-returns
-returns c = rw (eq-eqb _ _ (c .if1 .taken))
-
-returns-2 : tie.Need-returns-2
-returns-2 c = rw (ne-eqb _ _ (c .before .if1 .left), eq-eqb _ _ (c .if2 .taken))
-
-returns-3 : tie.Need-returns-3
-returns-3 c = rw (ne-eqb _ _ (c .before .if1 .left), ne-eqb _ _ (c .if2 .left))
-
 pub decode-await-spec : {M : Type 1} → statement M
 decode-await-spec =
-    tie.close (tie.spec returns returns-2 returns-3)
+    tie.close (tie.spec (λ c. rw (c .if1 .taken)) (λ c. rw (c .if2 .taken))
+    (λ c. rw (ne-eqb _ _ (c .before .if1 .left), ne-eqb _ _ (c .if2 .left))))

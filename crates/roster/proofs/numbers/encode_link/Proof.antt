@@ -7,9 +7,7 @@ use Rattle.roster.proofs.numbers.encode_link.Tie as tie
 returns : tie.Need-returns
 returns c =
     let line = c .before .encode-line in
-    let backlog = c .encode-await in
-    rw (link-back (line .result) (backlog .result) (line .ensures .1), line .ensures .0, backlog .ensures .0)
+    rw (link-back (line .result) (c .encode-await .result) (line .ensures .1), line .ensures .0, c .encode-await .ensures .0)
 
 pub encode-link-spec : {M : Type 1} → statement M
-encode-link-spec =
-    tie.close (tie.spec (search needs) (search needs) (search needs) (search needs) returns)
+encode-link-spec = tie.close (tie.spec (search needs) (search needs) (search needs) (search needs) returns)

@@ -7,17 +7,13 @@ use Rattle.roster.specs.Numbers.{requestOf}
 use Rattle.roster.proofs.numbers.encode_request.Statement.{statement}
 use Rattle.roster.proofs.numbers.encode_request.Tie as tie
 
-returns : tie.Need-returns
-unfolding requestOf
-returns c = search needs
-
 returns-2 : tie.Need-returns-2
 returns-2 c =
-    let posted = c .before .before .before .request in
-    rw (posted-back (posted .given .0 .0 .0) (c .encode-vmid .result) (omega arith), c .encode-vmid .ensures .0)
-    (sym (posted .given .1))
+    let arm = c .before .before .before .request .given in
+    rw (posted-back (arm .0 .0 .0) (c .encode-vmid .result) (omega arith), c .encode-vmid .ensures .0) (sym (arm .1))
 
 pub encode-request-spec : {M : Type 1} → statement M
+unfolding requestOf
 encode-request-spec =
-    tie.close (tie.spec (search needs) (search needs) (search needs) (search needs) (search needs) (search needs)
-    (search needs) returns returns-2)
+    tie.close (tie.spec (search needs) (search needs) (search needs) (search needs) (search needs) (search needs) (search needs)
+    (λ c. search needs) returns-2)

@@ -6,25 +6,19 @@ use Rattle.roster.specs.Numbers.{statusOf}
 use Rattle.roster.proofs.numbers.encode_standing.Statement.{statement}
 use Rattle.roster.proofs.numbers.encode_standing.Tie as tie
 
-returns : tie.Need-returns
-unfolding statusOf
-returns c = search needs
-
-returns-2 : tie.Need-returns-2
-returns-2 c = rw (running-back (c .encode-vmid .result), c .encode-vmid .ensures .0) (sym (c .before .before .standing .given .1))
-
-returns-3 : tie.Need-returns-3
-returns-3 c = rw (ended-back (c .encode-vmid2 .result), c .encode-vmid2 .ensures .0) (sym (c .before .before .standing2 .given .1))
-
 returns-4 : tie.Need-returns-4
 returns-4 c =
     let source = c .before .encode-vmid3 in
-    let target = c .encode-vmid4 in
-    rw (migrating-back (source .result) (target .result) (source .ensures .1), source .ensures .0, target .ensures .0)
-    (sym (c .before .before .before .standing3 .given .1))
+    let arm = c .before .before .before .standing3 .given in
+    rw (migrating-back (source .result) (c .encode-vmid4 .result) (source .ensures .1), source .ensures .0, c .encode-vmid4 .ensures .0)
+    (sym (arm .1))
 
 pub encode-standing-spec : {M : Type 1} → statement M
+unfolding statusOf
 encode-standing-spec =
-    tie.close (tie.spec (search needs) (search needs) (search needs) (search needs) (search needs) (search needs)
-    (search needs) (search needs) (search needs) (search needs) (search needs) (search needs) (search needs)
-    (search needs) (search needs) (search needs) returns returns-2 returns-3 returns-4)
+    tie.close (tie.spec (search needs) (search needs) (search needs) (search needs) (search needs) (search needs) (search needs)
+    (search needs) (search needs) (search needs) (search needs) (search needs) (search needs) (search needs) (search needs) (search needs)
+    (λ c. search needs)
+    (λ c. rw (running-back (c .encode-vmid .result), c .encode-vmid .ensures .0) (sym (c .before .before .standing .given .1)))
+    (λ c. rw (ended-back (c .encode-vmid2 .result), c .encode-vmid2 .ensures .0) (sym (c .before .before .standing2 .given .1)))
+    returns-4)

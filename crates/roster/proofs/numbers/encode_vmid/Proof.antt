@@ -1,13 +1,12 @@
 -- `roster::numbers::encode_vmid` meets its contract. Assumes nothing.
-use native.Mathlib.Omega.{arith}
 use borrow.Author.Needs.{needs}
-use Rattle.roster.specs.Laws.Numbers.{vmid-back}
+use native.Mathlib.Omega.{arith}
+use Rattle.roster.specs.Laws.Numbers.{same-vmid}
 use Rattle.roster.proofs.numbers.encode_vmid.Statement.{statement}
 use Rattle.roster.proofs.numbers.encode_vmid.Tie as tie
 
 returns : tie.Need-returns
-returns c = let v = c .before .before .args .v in (vmid-back (v .0) (v .1) (omega arith) (omega arith), omega arith)
+returns c = (same-vmid (omega arith) (omega arith), omega arith)
 
 pub encode-vmid-spec : {M : Type 1} → statement M
-encode-vmid-spec =
-    tie.close (tie.spec (search needs) (search needs) (search needs) (search needs) returns)
+encode-vmid-spec = tie.close (tie.spec (search needs) (search needs) (search needs) (search needs) returns)
