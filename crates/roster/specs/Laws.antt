@@ -2,5 +2,4 @@
 pub mod Columns
 pub mod Loaded
 pub mod Numbers
-pub mod Reads
 pub mod Stores

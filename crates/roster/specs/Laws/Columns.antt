@@ -3,12 +3,13 @@ use mathlib.Core.Path.{_≡_, refl, ap, _∙_}
 use mathlib.Core.List.{List}
 use Prim.Native.Nat.{ℕ, _+_, _<_, _≤_}
 use native.Mathlib.Omega.{arith}
-use lib.ListN.{length, getD, set}
+use lib.ListN.{getD, set}
 use lib.Seq.{getD-set-other}
 use Rattle.base.specs.Laws.Stores.{long-set}
 use Rattle.base.specs.Laws.Tabulate.{tabulate-same}
 use Rattle.base.specs.Lists.{tabulate}
 use Rattle.transit.specs.Message.{ranks, cells}
+use Rattle.transit.specs.Unread.{nothing}
 use Rattle.broker.specs.Names.{hosts}
 use Rattle.broker.specs.State.{withLocations, withLinks}
 use Rattle.broker.specs.declared.link.Link.{Link}
@@ -43,6 +44,9 @@ changed-inside {m = m} i w o low high =
       same = λ j out. getD-set-other m i j w 0 (λ e. out (omega arith) (omega arith)) ∙ o .same j out;
     }
 
+pub stored : {from to : ℕ} (l : List ℕ) (i w : ℕ) → Whole l → from ≤ i → i < to → Outside from to l (set l i w)
+stored l i w whole low high = changed-inside i w (nothing-changed whole) low high
+
 module _ {from to : ℕ} {l m : List ℕ} (o : Outside from to l m) where
   -- a column of n numbers from `start` on that lies outside
   column-kept : {A : Type 0} (decode : ℕ → A) (start n : ℕ) → ((k : ℕ) → k < n → from ≤ start + k → start + k < to → ⊥)
@@ -65,7 +69,8 @@ module _ {l m : List ℕ} where
       let links = column-kept o linkOf LINKS cells (λ k b p q. omega arith) in
       record { long = o .whole; same = rw (own, locations, links, column-kept o drawnOf DRAWN hosts (λ k b p q. omega arith)) }
 
-  pub locations-only : {ls : List Vmid} → Outside LOCATIONS LINKS l m → tabulate cells (locationIn m) ≡ ls → Holds m (withLocations ls (ranksOf l))
+  pub locations-only : {ls : List Vmid} → Outside LOCATIONS LINKS l m → tabulate cells (locationIn m) ≡ ls
+      → Holds m (withLocations ls (ranksOf l))
   unfolding ranksOf
   locations-only o own =
       let links = column-kept o linkOf LINKS cells (λ k b p q. omega arith) in
@@ -85,3 +90,8 @@ module _ {l m : List ℕ} where
       let locations = column-kept o vmidOf LOCATIONS cells (λ k b p q. omega arith) in
       let links = column-kept o linkOf LINKS cells (λ k b p q. omega arith) in
       record { long = o .whole; same = rw (processes-kept o (omega arith), locations, links, own) }
+
+-- a roster has no messages
+pub no-messages : (l : List ℕ) → ranksOf l .unread ≡ nothing
+unfolding ranksOf
+no-messages l = refl

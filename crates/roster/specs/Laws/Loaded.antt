@@ -12,13 +12,11 @@ use Rattle.base.specs.Laws.Tabulate.{tabulate-is}
 use Rattle.base.specs.Lists.{tabulate}
 use Rattle.transit.specs.Message.{ranks, cells}
 use Rattle.broker.specs.Names.{unknown, hosts}
-use Rattle.broker.specs.State.{idle, apart, fresh, withLocations, withLinks}
-use Rattle.broker.specs.declared.link.Link.{Link}
+use Rattle.broker.specs.State.{idle, apart, fresh}
 use Rattle.broker.specs.declared.process.Process.{Process}
-use Rattle.broker.specs.declared.process.Vmid.{Vmid}
-use Rattle.roster.specs.Laws.Columns.{nothing-changed, changed-inside, processes-only, locations-only, links-only, drawn-only}
+use Rattle.roster.specs.Laws.Columns.{nothing-changed, changed-inside}
 use Rattle.roster.specs.Laws.Numbers.{status-zero, request-zero, link-zero}
-use Rattle.roster.specs.Loaded.{withProcesses, withAllDrawn, Copying, Filled}
+use Rattle.roster.specs.Loaded.{Copying, Filled}
 use Rattle.roster.specs.Numbers.{statusOf, requestOf}
 use Rattle.roster.specs.Roster.{
   processIn,
@@ -59,41 +57,47 @@ module _ {A : Type 0} {f : ℕ → A} {d : A} {full : ℕ} where
   pub copy-whole : {n : ℕ} {xs : List A} → Copying f d full n xs → full ≤ n → xs ≡ tabulate full f
   copy-whole {xs = xs} so all = sym (tabulate-is full f xs d (so .long) (λ k b. so .copied k (omega arith)))
 
-module _ {A : Type 0} {d : A} where
+module _ {A : Type 0} {entry : List ℕ → ℕ → A} {d : A} {xs : List A} {from to : ℕ} where
   -- a pass that has not begun
-  pub fill-none : {entry : List ℕ → ℕ → A} {xs : List A} {from to : ℕ} {l : List ℕ} → Whole l → Filled entry d xs 0 from to l l
+  pub fill-none : {l : List ℕ} → Whole l → Filled entry d xs 0 from to l l
   fill-none whole = record { kept = nothing-changed whole; filled = below-none _ }
 
   -- and one that goes on from where another stands
-  pub fill-from : {entry : List ℕ → ℕ → A} {xs : List A} {m n from to : ℕ} {before after : List ℕ} → Filled entry d xs n from to before after
-      → m ≤ n → Filled entry d xs m from to after after
+  pub fill-from : {m n : ℕ} {before after : List ℕ} → Filled entry d xs n from to before after → m ≤ n
+      → Filled entry d xs m from to after after
   fill-from so fewer = record { kept = nothing-changed (so .kept .whole); filled = λ k b. so .filled k (omega arith) }
 
   -- both together
-  pub fill-joined : {entry : List ℕ → ℕ → A} {xs : List A} {m n k from to : ℕ} {before between after : List ℕ}
-      → Filled entry d xs m from to before between → Filled entry d xs n from to between after → k ≤ n → Filled entry d xs k from to before after
+  pub fill-joined : {m n k : ℕ} {before between after : List ℕ} → Filled entry d xs m from to before between
+      → Filled entry d xs n from to between after → k ≤ n → Filled entry d xs k from to before after
   fill-joined so then fewer =
       record {
         kept = record { whole = then .kept .whole; same = λ j out. then .kept .same j out ∙ so .kept .same j out };
         filled = λ k b. then .filled k (omega arith);
       }
 
-  -- one number more of a column is filled
-  pub fill-next : (decode : ℕ → A) (from : ℕ) {xs : List A} {m n to w : ℕ} {before after : List ℕ}
-      → Filled (λ l k. decode (getD l (from + k) 0)) d xs n from to before after
-      → from + n < to → to ≤ rosterLength → decode w ≡ getD xs n d → m ≤ n + 1
-      → Filled (λ l k. decode (getD l (from + k) 0)) d xs m from to before (set after (from + n) w)
-  fill-next decode from {n = n} {w = w} {after = after} so inside room here upto =
-      let last = ap decode (getD-set-same after (from + n) w 0 (omega (arith, so .kept .whole))) ∙ here in
-      record {
-        kept = changed-inside (from + n) w (so .kept) (omega arith) inside;
-        filled = λ k b.
-            below-more _ _ (λ j b. ap decode (getD-set-other after (from + n) (from + j) w 0 (λ e. omega arith)) ∙ so .filled j b) last k (omega arith);
-      }
+  -- a whole pass
+  pub fill-whole : {m n : ℕ} {before after : List ℕ} → Filled entry d xs m from to before after → length xs ≡ n → n ≤ m
+      → tabulate n (entry after) ≡ xs
+  fill-whole {n = n} {after = after} so full all = tabulate-is n (entry after) xs d full (λ k b. so .filled k (omega arith))
+
+-- one number more of a column is filled
+pub fill-next : {A : Type 0} (decode : ℕ → A) (from : ℕ) {d : A} {xs : List A} {m n to w : ℕ} {before after : List ℕ}
+    → Filled (λ l k. decode (getD l (from + k) 0)) d xs n from to before after
+    → from + n < to → to ≤ rosterLength → decode w ≡ getD xs n d → m ≤ n + 1
+    → Filled (λ l k. decode (getD l (from + k) 0)) d xs m from to before (set after (from + n) w)
+fill-next decode from {n = n} {w = w} {after = after} so inside room here upto =
+    let last = ap decode (getD-set-same after (from + n) w 0 (omega (arith, so .kept .whole))) ∙ here in
+    record {
+      kept = changed-inside (from + n) w (so .kept) (omega arith) inside;
+      filled = λ k b.
+          below-more _ _ (λ j c. ap decode (getD-set-other after (from + n) (from + j) w 0 (λ e. omega arith)) ∙ so .filled j c) last
+          k (omega arith);
+    }
 
 -- one process more is filled: its standing and its call
-pub fill-process : {ps : List Process} {n : ℕ} (v w : ℕ) {before after : List ℕ} → Filled processIn idle ps n 0 LOCATIONS before after → n < ranks
-    → record { status = statusOf v; request = requestOf w } ≡ getD ps n idle
+pub fill-process : {ps : List Process} {n : ℕ} (v w : ℕ) {before after : List ℕ} → Filled processIn idle ps n 0 LOCATIONS before after
+    → n < ranks → record { status = statusOf v; request = requestOf w } ≡ getD ps n idle
     → Filled processIn idle ps (n + 1) 0 LOCATIONS before (set (set after n v) (REQUESTS + n) w)
 fill-process {n = n} v w {after = after} so below here =
     let m = set after n v in
@@ -110,24 +114,6 @@ fill-process {n = n} v w {after = after} so below here =
           rw (others k (λ e. omega arith) (λ e. omega arith), others (REQUESTS + k) (λ e. omega arith) (λ e. omega arith)) (so .filled k b))
           (rw (call, standing) here);
     }
-
--- a whole pass over a column
-module _ {n : ℕ} {before after : List ℕ} where
-  pub processes-loaded : {ps : List Process} → length ps ≡ ranks → ranks ≤ n → Filled processIn idle ps n 0 LOCATIONS before after
-      → Holds after (withProcesses ps (ranksOf before))
-  processes-loaded {ps} full all so = processes-only (so .kept) (tabulate-is ranks (processIn after) ps idle full (λ k b. so .filled k (omega arith)))
-
-  pub locations-loaded : {ls : List Vmid} → length ls ≡ cells → cells ≤ n → Filled locationIn unknown ls n LOCATIONS LINKS before after
-      → Holds after (withLocations ls (ranksOf before))
-  locations-loaded {ls} full all so = locations-only (so .kept) (tabulate-is cells (locationIn after) ls unknown full (λ k b. so .filled k (omega arith)))
-
-  pub links-loaded : {ks : List Link} → length ks ≡ cells → cells ≤ n → Filled linkIn apart ks n LINKS DRAWN before after
-      → Holds after (withLinks ks (ranksOf before))
-  links-loaded {ks} full all so = links-only (so .kept) (tabulate-is cells (linkIn after) ks apart full (λ k b. so .filled k (omega arith)))
-
-  pub drawn-loaded : {ns : List ℕ} → length ns ≡ hosts → hosts ≤ n → Filled drawnIn 0 ns n DRAWN rosterLength before after
-      → Holds after (withAllDrawn ns (ranksOf before))
-  drawn-loaded {ns} full all so = drawn-only (so .kept) (tabulate-is hosts (drawnIn after) ns 0 full (λ k b. so .filled k (omega arith)))
 
 -- a list that is everywhere the same
 tabulate-constant : {A : Type 0} (n : ℕ) (f : ℕ → A) (x : A) → ((k : ℕ) → k < n → f k ≡ x) → tabulate n f ≡ replicate n x

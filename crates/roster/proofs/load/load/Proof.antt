@@ -1,7 +1,7 @@
 -- `roster::load::load` meets its contract. Assumes nothing.
 use mathlib.Core.Path.{_∙_}
 use borrow.Author.Needs.{needs}
-use Rattle.roster.specs.Laws.Reads.{no-messages}
+use Rattle.roster.specs.Laws.Columns.{no-messages}
 use Rattle.roster.proofs.load.load.Statement.{statement}
 use Rattle.roster.proofs.load.load.Tie as tie
 
@@ -12,16 +12,9 @@ returns c =
     let processes = locations .before .before in
     record {
       long = c .load-drawn .ensures .long;
-      same =
-          c .load-drawn .ensures .same ∙
-          rw (
-            links .load-links .ensures .same,
-            locations .load-locations .ensures .same,
-            processes .load-processes .ensures .same,
-            no-messages,
-          );
+      same = c .load-drawn .ensures .same ∙ rw (links .load-links .ensures .same, locations .load-locations .ensures .same)
+          (rw (processes .load-processes .ensures .same, no-messages));
     }
 
 pub load-spec : {M : Type 1} → statement M
-load-spec =
-    tie.close (tie.spec (search needs) (search needs) (search needs) (search needs) returns)
+load-spec = tie.close (tie.spec (search needs) (search needs) (search needs) (search needs) returns)

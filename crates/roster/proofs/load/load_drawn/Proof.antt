@@ -3,7 +3,8 @@ use Prim.Native.Nat.{_≤_, _-_}
 use native.Mathlib.Omega.{arith}
 use borrow.Author.Needs.{needs}
 use Rattle.broker.specs.Names.{hosts}
-use Rattle.roster.specs.Laws.Loaded.{fill-none, fill-next, drawn-loaded}
+use Rattle.roster.specs.Laws.Columns.{drawn-only}
+use Rattle.roster.specs.Laws.Loaded.{fill-none, fill-next, fill-whole}
 use Rattle.roster.specs.Loaded.{Filled}
 use Rattle.roster.specs.Numbers.{drawnOf}
 use Rattle.roster.specs.Roster.{drawnIn, DRAWN, rosterLength}
@@ -25,4 +26,5 @@ pub load-drawn-spec : {M : Type 1} → statement M
 load-drawn-spec =
     tie.close (tie.spec Inv-loop μ-loop (λ c. (omega arith, fill-none (c .pre))) (search needs) (search needs) (search needs)
     (search needs) (search needs) (search needs) (search needs) (search needs) loop-again
-    (λ c. drawn-loaded (c .before .before .good .0 .1 .0 .1) (omega arith) (c .before .loop .inv .1)))
+    (λ c. drawn-only (c .before .loop .inv .1 .kept)
+    (fill-whole (c .before .loop .inv .1) (c .before .before .good .0 .1 .0 .1) (omega arith))))

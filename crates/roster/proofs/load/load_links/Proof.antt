@@ -4,7 +4,8 @@ use native.Mathlib.Omega.{arith}
 use borrow.Author.Needs.{needs}
 use Rattle.transit.specs.Message.{cells}
 use Rattle.broker.specs.State.{apart}
-use Rattle.roster.specs.Laws.Loaded.{fill-none, fill-next, links-loaded}
+use Rattle.roster.specs.Laws.Columns.{links-only}
+use Rattle.roster.specs.Laws.Loaded.{fill-none, fill-next, fill-whole}
 use Rattle.roster.specs.Loaded.{Filled}
 use Rattle.roster.specs.Numbers.{linkOf}
 use Rattle.roster.specs.Roster.{linkIn, LINKS, DRAWN}
@@ -26,4 +27,5 @@ pub load-links-spec : {M : Type 1} → statement M
 load-links-spec =
     tie.close (tie.spec Inv-loop μ-loop (λ c. (omega arith, fill-none (c .pre))) (search needs) (search needs) (search needs)
     (search needs) (search needs) (search needs) (search needs) (search needs) loop-again
-    (λ c. links-loaded (c .before .before .good .0 .1 .0 .1) (omega arith) (c .before .loop .inv .1)))
+    (λ c. links-only (c .before .loop .inv .1 .kept)
+    (fill-whole (c .before .loop .inv .1) (c .before .before .good .0 .1 .0 .1) (omega arith))))

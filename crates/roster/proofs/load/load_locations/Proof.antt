@@ -6,7 +6,8 @@ use borrow.Author.Needs.{needs}
 use Rattle.base.specs.Laws.Tabulate.{tabulate-at}
 use Rattle.transit.specs.Message.{ranks}
 use Rattle.broker.specs.Names.{unknown}
-use Rattle.roster.specs.Laws.Loaded.{fill-none, fill-next, fill-from, fill-joined, locations-loaded}
+use Rattle.roster.specs.Laws.Columns.{locations-only}
+use Rattle.roster.specs.Laws.Loaded.{fill-none, fill-next, fill-from, fill-joined, fill-whole}
 use Rattle.roster.specs.Loaded.{Filled}
 use Rattle.roster.specs.Numbers.{vmidOf}
 use Rattle.roster.specs.Roster.{locationIn, LOCATIONS, LINKS}
@@ -34,7 +35,9 @@ loop2-again c =
     (omega arith, fill-next vmidOf LOCATIONS (inner .loop2 .inv .1) (omega arith) (omega arith) entry (omega arith))
 
 returns : tie.Need-returns Inv-loop2 μ-loop2 Inv-loop μ-loop
-returns c = locations-loaded (c .before .before .good .0 .1 .0 .1) (omega arith) (c .before .loop .inv .1)
+returns c =
+    locations-only (c .before .loop .inv .1 .kept)
+    (fill-whole (c .before .loop .inv .1) (c .before .before .good .0 .1 .0 .1) (omega arith))
 
 loop-again : tie.Need-loop-again Inv-loop2 μ-loop2 Inv-loop μ-loop
 loop-again c =

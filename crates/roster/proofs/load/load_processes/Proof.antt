@@ -4,7 +4,8 @@ use native.Mathlib.Omega.{arith}
 use borrow.Author.Needs.{needs}
 use Rattle.transit.specs.Message.{ranks}
 use Rattle.broker.specs.State.{idle}
-use Rattle.roster.specs.Laws.Loaded.{fill-none, fill-process, processes-loaded}
+use Rattle.roster.specs.Laws.Columns.{processes-only}
+use Rattle.roster.specs.Laws.Loaded.{fill-none, fill-process, fill-whole}
 use Rattle.roster.specs.Loaded.{Filled}
 use Rattle.roster.specs.Roster.{processIn, LOCATIONS}
 use Rattle.roster.proofs.load.load_processes.Statement.{statement}
@@ -19,10 +20,13 @@ abbrev μ-loop : tie.MeasureT-loop
 loop-again : tie.Need-loop-again Inv-loop μ-loop
 loop-again c =
     let head = c .before .before .before .before in
-    (omega arith, fill-process _ _ (head .loop .inv .1) (omega arith) (rw (c .before .encode-standing .ensures, c .encode-request .ensures)))
+    let filled = fill-process _ _ (head .loop .inv .1) (omega arith) in
+    (omega arith, filled (rw (c .before .encode-standing .ensures, c .encode-request .ensures)))
 
 returns : tie.Need-returns Inv-loop μ-loop
-returns c = processes-loaded (c .before .before .good .0 .1 .0 .1) (omega arith) (c .before .loop .inv .1)
+returns c =
+    processes-only (c .before .loop .inv .1 .kept)
+    (fill-whole (c .before .loop .inv .1) (c .before .before .good .0 .1 .0 .1) (omega arith))
 
 pub load-processes-spec : {M : Type 1} → statement M
 load-processes-spec =

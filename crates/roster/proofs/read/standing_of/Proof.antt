@@ -1,18 +1,14 @@
 -- `roster::read::standing_of` meets its contract. Assumes nothing.
 use borrow.Author.Needs.{needs}
-use Rattle.roster.specs.Laws.Reads.{status-at, status-past}
+use Rattle.base.specs.Laws.Tabulate.{tabulate-at, tabulate-past}
+use Rattle.broker.specs.State.{status}
+use Rattle.roster.specs.Roster.{ranksOf}
 use Rattle.roster.proofs.read.standing_of.Statement.{statement}
 use Rattle.roster.proofs.read.standing_of.Tie as tie
 
-returns : tie.Need-returns
-returns c =
-    let test = c .before .before in
-    let args = test .before .before .args in
-    rw (status-at (args .roster .now) (args .r) (test .if1 .taken)) (c .decode-standing .ensures)
-
-returns-2 : tie.Need-returns-2
-returns-2 c = let args = c .before .before .args in rw (status-past (args .roster .now) (args .r) (c .if1 .left))
-
 pub standing-of-spec : {M : Type 1} → statement M
+unfolding ranksOf
 standing-of-spec =
-    tie.close (tie.spec (search needs) (search needs) (search needs) (search needs) returns returns-2)
+    tie.close (tie.spec (search needs) (search needs) (search needs) (search needs)
+    (λ c. rw (tabulate-at _ _ _ _ (c .before .before .if1 .taken), status) (c .decode-standing .ensures))
+    (λ c. rw (tabulate-past _ _ _ _ (c .if1 .left), status)))

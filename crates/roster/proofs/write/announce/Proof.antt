@@ -17,21 +17,15 @@ use Rattle.roster.proofs.write.announce.Tie as tie
 abbrev Inv-loop : tie.InvT-loop
 Inv-loop r vmid roster₀ i₀ roster i =
     (i ≤ ranks) ×
-    Holds roster
-    (withLocations (eachBelow i (λ p l. set l (cell (rank p) r) vmid) (ranksOf roster₀ .locations)) (ranksOf roster₀))
+    Holds roster (withLocations (eachBelow i (λ p l. set l (cell (rank p) r) vmid) (ranksOf roster₀ .locations)) (ranksOf roster₀))
 
 abbrev μ-loop : tie.MeasureT-loop
 μ-loop r vmid roster₀ i₀ roster i = ranks - i
 
-loop-holds : tie.Need-loop-holds Inv-loop μ-loop
-loop-holds c = (omega arith, record { long = c .pre; same = refl })
-
 loop-again : tie.Need-loop-again Inv-loop μ-loop
 loop-again c =
     let head = c .before .before .before in
-    let told = head .loop .inv .1 .same in
-    let next = c .set-location .ensures in
-    (omega arith, record { long = next .long; same = rw add-one (rw told at (next .same)) })
+    (omega arith, rw add-one (rw (head .loop .inv .1 .same) at (c .set-location .ensures)))
 
 returns : tie.Need-returns Inv-loop μ-loop
 unfolding announced eachRank
@@ -41,4 +35,5 @@ returns c =
 
 pub announce-spec : {M : Type 1} → statement M
 announce-spec =
-    tie.close (tie.spec Inv-loop μ-loop loop-holds (search needs) (search needs) (search needs) loop-again returns)
+    tie.close (tie.spec Inv-loop μ-loop (λ c. (omega arith, record { long = c .pre; same = refl })) (search needs) (search needs)
+    (search needs) loop-again returns)

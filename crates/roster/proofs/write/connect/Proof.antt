@@ -3,9 +3,6 @@ use borrow.Author.Needs.{needs}
 use Rattle.roster.proofs.write.connect.Statement.{statement}
 use Rattle.roster.proofs.write.connect.Tie as tie
 
-returns : tie.Need-returns
-returns c = rw (c .before .before .link-between .ensures) at (c .set-link .ensures)
-
 pub connect-spec : {M : Type 1} → statement M
 connect-spec =
-    tie.close (tie.spec (search needs) (search needs) returns)
+    tie.close (tie.spec (search needs) (search needs) (λ c. rw (c .before .before .link-between .ensures) at (c .set-link .ensures)))

@@ -1,22 +1,26 @@
 -- `roster::write::set_drawn` meets its contract. Assumes nothing.
+use Prim.Native.Nat.{_+_}
+use native.Mathlib.Omega.{arith}
 use borrow.Author.Needs.{needs}
-use Rattle.roster.specs.Laws.Stores.{drawn-stored, drawn-past-end}
+use Rattle.base.specs.Laws.Tabulate.{tabulate-set-past}
+use Rattle.broker.specs.Names.{hosts}
+use Rattle.roster.specs.Laws.Columns.{stored, drawn-only}
+use Rattle.roster.specs.Laws.Stores.{column-set}
+use Rattle.roster.specs.Numbers.{drawnOf}
+use Rattle.roster.specs.Roster.{ranksOf, DRAWN}
 use Rattle.roster.proofs.write.set_drawn.Statement.{statement}
 use Rattle.roster.proofs.write.set_drawn.Tie as tie
 
 returns : tie.Need-returns
+unfolding ranksOf
 returns c =
-    let test = c .before in
-    let start = test .before in
-    let args = start .args in
-    rw (c .encode-drawn .ensures) at
-    (drawn-stored (args .roster .now) (start .pre) (args .host) (c .encode-drawn .result) (test .if1 .taken))
-
-returns-2 : tie.Need-returns-2
-returns-2 c =
-    let start = c .before in
-    drawn-past-end (start .args .roster .now) (start .pre) (start .args .host) _ (c .if1 .left)
+    let start = c .before .before in
+    let roster = start .args .roster .now in
+    drawn-only (stored roster (DRAWN + start .args .host) (c .encode-drawn .result) (start .pre) (omega arith) (omega arith))
+    (column-set drawnOf DRAWN hosts roster (c .before .if1 .taken) (omega arith) (c .encode-drawn .ensures))
 
 pub set-drawn-spec : {M : Type 1} → statement M
+unfolding ranksOf
 set-drawn-spec =
-    tie.close (tie.spec (search needs) (search needs) (search needs) (search needs) returns returns-2)
+    tie.close (tie.spec (search needs) (search needs) (search needs) (search needs) returns
+    (λ c. record { long = c .before .pre; same = rw (tabulate-set-past _ _ _ _ (c .if1 .left)) }))

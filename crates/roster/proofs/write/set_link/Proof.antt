@@ -1,24 +1,28 @@
 -- `roster::write::set_link` meets its contract. Assumes nothing.
+use Prim.Native.Nat.{_+_}
+use native.Mathlib.Omega.{arith}
 use borrow.Author.Needs.{needs}
-use Rattle.roster.specs.Laws.Stores.{link-stored, link-past-end}
+use Rattle.base.specs.Laws.Tabulate.{tabulate-set-past}
+use Rattle.transit.specs.Message.{cells}
+use Rattle.roster.specs.Laws.Columns.{stored, links-only}
+use Rattle.roster.specs.Laws.Stores.{column-set}
+use Rattle.roster.specs.Numbers.{linkOf}
+use Rattle.roster.specs.Roster.{ranksOf, LINKS}
 use Rattle.roster.proofs.write.set_link.Statement.{statement}
 use Rattle.roster.proofs.write.set_link.Tie as tie
 
 returns : tie.Need-returns
+unfolding ranksOf
 returns c =
-    let test = c .before in
-    let cell = test .before .cell in
-    let start = test .before .before in
-    rw (← cell .ensures, ← c .encode-link .ensures)
-    (link-stored (start .args .roster .now) (start .pre) (cell .result) (c .encode-link .result) (test .if1 .taken))
-
-returns-2 : tie.Need-returns-2
-returns-2 c =
-    let cell = c .before .cell in
-    let start = c .before .before in
-    let args = start .args in
-    rw (← cell .ensures) (link-past-end (args .roster .now) (start .pre) (cell .result) (args .link) (c .if1 .left))
+    let cell = c .before .before .cell in
+    let start = c .before .before .before in
+    let roster = start .args .roster .now in
+    rw (← cell .ensures)
+    (links-only (stored roster (LINKS + cell .result) (c .encode-link .result) (start .pre) (omega arith) (omega arith))
+    (column-set linkOf LINKS cells roster (c .before .if1 .taken) (omega arith) (c .encode-link .ensures)))
 
 pub set-link-spec : {M : Type 1} → statement M
+unfolding ranksOf
 set-link-spec =
-    tie.close (tie.spec (search needs) (search needs) (search needs) (search needs) (search needs) returns returns-2)
+    tie.close (tie.spec (search needs) (search needs) (search needs) (search needs) (search needs) returns
+    (λ c. record { long = c .before .before .pre; same = rw (← c .before .cell .ensures, tabulate-set-past _ _ _ _ (c .if1 .left)) }))

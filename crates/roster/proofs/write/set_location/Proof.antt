@@ -1,24 +1,28 @@
 -- `roster::write::set_location` meets its contract. Assumes nothing.
+use Prim.Native.Nat.{_+_}
+use native.Mathlib.Omega.{arith}
 use borrow.Author.Needs.{needs}
-use Rattle.roster.specs.Laws.Stores.{location-stored, location-past-end}
+use Rattle.base.specs.Laws.Tabulate.{tabulate-set-past}
+use Rattle.transit.specs.Message.{cells}
+use Rattle.roster.specs.Laws.Columns.{stored, locations-only}
+use Rattle.roster.specs.Laws.Stores.{column-set}
+use Rattle.roster.specs.Numbers.{vmidOf}
+use Rattle.roster.specs.Roster.{ranksOf, LOCATIONS}
 use Rattle.roster.proofs.write.set_location.Statement.{statement}
 use Rattle.roster.proofs.write.set_location.Tie as tie
 
 returns : tie.Need-returns
+unfolding ranksOf
 returns c =
-    let test = c .before in
-    let cell = test .before .cell in
-    let start = test .before .before in
-    rw (← cell .ensures, ← c .encode-vmid .ensures .0)
-    (location-stored (start .args .roster .now) (start .pre) (cell .result) (c .encode-vmid .result) (test .if1 .taken))
-
-returns-2 : tie.Need-returns-2
-returns-2 c =
-    let cell = c .before .cell in
-    let start = c .before .before in
-    let args = start .args in
-    rw (← cell .ensures) (location-past-end (args .roster .now) (start .pre) (cell .result) (args .vmid) (c .if1 .left))
+    let cell = c .before .before .cell in
+    let start = c .before .before .before in
+    let roster = start .args .roster .now in
+    rw (← cell .ensures)
+    (locations-only (stored roster (LOCATIONS + cell .result) (c .encode-vmid .result) (start .pre) (omega arith) (omega arith))
+    (column-set vmidOf LOCATIONS cells roster (c .before .if1 .taken) (omega arith) (c .encode-vmid .ensures .0)))
 
 pub set-location-spec : {M : Type 1} → statement M
+unfolding ranksOf
 set-location-spec =
-    tie.close (tie.spec (search needs) (search needs) (search needs) (search needs) (search needs) returns returns-2)
+    tie.close (tie.spec (search needs) (search needs) (search needs) (search needs) (search needs) returns
+    (λ c. record { long = c .before .before .pre; same = rw (← c .before .cell .ensures, tabulate-set-past _ _ _ _ (c .if1 .left)) }))
