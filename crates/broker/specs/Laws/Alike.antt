@@ -10,6 +10,7 @@ use Rattle.base.specs.Laws.Lists.{select-map}
 use Rattle.base.specs.Laws.Tests.{both, not-both}
 use Rattle.base.specs.Lists.{tally}
 use Rattle.transit.specs.Message.{between, to, ranks}
+use Rattle.transit.specs.Unread.{limit}
 use Rattle.transit.specs.declared.Message.{Message}
 use Rattle.transit.specs.declared.Rank.{Rank}
 use Rattle.broker.specs.Checks.{refusal}
@@ -44,7 +45,7 @@ use Rattle.broker.specs.Laws.State.{sameRank-self}
 use Rattle.broker.specs.Laws.View.{side, pairFits}
 use Rattle.broker.specs.Names.{isStarted, isRunning, isMigrating, isLive, isEnded, isClosed, isClear}
 use Rattle.broker.specs.Sound.{sound}
-use Rattle.broker.specs.State.{State, status, connection, drawnOn, messages}
+use Rattle.broker.specs.State.{State, status, request, connection, drawnOn, messages}
 use Rattle.broker.specs.declared.link.Connection.{Connection}
 use Rattle.broker.specs.declared.link.Connection.the-variants.{Open}
 use Rattle.broker.specs.declared.link.Link.{Link}
@@ -110,13 +111,9 @@ module _ (s x : State) (standing : core x .statuses ≡ core s .statuses) {q : R
 
     two-alike : (a b : Rank) → Two s a b → Two x a b
     two-alike a b t =
-        record {
-          first = t .first;
-          second = t .second;
-          apart = t .apart;
-          first-started = started-alike a (t .first) ∙ t .first-started;
-          second-started = started-alike b (t .second) ∙ t .second-started;
-        }
+        let one = started-alike a (t .first) ∙ t .first-started in
+        let other = started-alike b (t .second) ∙ t .second-started in
+        record { first = t .first; second = t .second; apart = t .apart; first-started = one; second-started = other }
 
 -- Two cores that are the same have the same standings.
 pub same-standings : {c d : Core} → c ≡ d → c .statuses ≡ d .statuses
@@ -143,13 +140,9 @@ module _ (s x : State) (same : core x ≡ core s) (c : AllQuiet x) where
   pub start-again : (r : Rank) (h : ℕ) → refusal s (Start r h) ≡ none → refusal x (Start r h) ≡ none
   start-again r h p =
       let f = start-fits s r h p in
+      let unstarted = started-alike s x (same-standings same) c r (f .in-range) ∙ f .unstarted in
       start-accepted x r h
-      (record {
-        in-range = f .in-range;
-        host = f .host;
-        room = rw (drawn-alike s x same h) (f .room);
-        unstarted = started-alike s x (same-standings same) c r (f .in-range) ∙ f .unstarted;
-      })
+      (record { in-range = f .in-range; host = f .host; unstarted = unstarted; room = rw (drawn-alike s x same h) (f .room) })
 
   pub take-again : (b a : Rank) → refusal s (Take b a) ≡ none → refusal x (Take b a) ≡ none
   take-again b a p =
@@ -206,51 +199,38 @@ module _ (s : State) (a b : Rank) (v : ℕ) (p : refusal s (Send a b v) ≡ none
     fits : SendFits s a b
     fits = send-fits s a b v p
 
-    first : a .0 < ranks
-    first = fits .two .first
+    module _ {q : Rank → Request} {l : Rank → Rank → Connection} (c : Calm x nobody q l) where
+      both-alike : Two x a b
+      both-alike = two-alike s x standing c a b (fits .two)
 
-    second : b .0 < ranks
-    second = fits .two .second
+      sender-runs : isRunning (status x a) ≡ true
+      sender-runs = running-alike s x standing c a (fits .two .first) (fits .running)
+
+      line-is : connection x a b ≡ l a b
+      line-is = ap (λ (k : Link). k .connection) (c .links a b (fits .two .first) (fits .two .second))
+
+      call-is : request x a ≡ q a
+      call-is = c .requests a (fits .two .first)
 
     pub call-before : AllQuiet x → refusal x (Call a b) ≡ none
     call-before c =
-        call-accepted x a b
-        (record {
-          two = two-alike s x standing c a b (fits .two);
-          running = running-alike s x standing c a first (fits .running);
-          closed = ap (λ (k : Link). isClosed (k .connection)) (c .links a b first second);
-          idle = rw (c .requests a first);
-        })
+        call-accepted x a b (record { two = both-alike c; running = sender-runs c; closed = rw (line-is c); idle = rw (call-is c) })
 
     pub route-before : (u : Vmid) → Calling x a b u → refusal x (Route a b) ≡ none
-    route-before u c =
-        route-accepted x a b
-        (record { two = two-alike s x standing c a b (fits .two); asks = rw (c .requests a first, sameRank-self a, sameRank-self b) })
+    route-before u c = route-accepted x a b (record { two = both-alike c; asks = rw (call-is c, sameRank-self a, sameRank-self b) })
 
     line-stands : Joined x a b → connection x a b ≡ Open
-    line-stands c =
-        ap (λ (k : Link). k .connection) (c .links a b first second) ∙ rw (fits .two .apart, sameRank-self a, sameRank-self b)
+    line-stands c = line-is c ∙ rw (fits .two .apart, sameRank-self a, sameRank-self b)
 
     pub send-again : Joined x a b → core x ≡ core s → sound x ≡ true → sound s ≡ true → refusal x (Send a b v) ≡ none
     send-again c same hx hs =
-        send-accepted x a b v
-        (record {
-          two = two-alike s x standing c a b (fits .two);
-          running = running-alike s x standing c a first (fits .running);
-          line = rw (line-stands c);
-          room = rw (count-alike s x same hx hs) (fits .room);
-        })
+        let room : x .unread .count < limit = rw (count-alike s x same hx hs) (fits .room) in
+        send-accepted x a b v (record { two = both-alike c; running = sender-runs c; line = rw (line-stands c); room = room })
 
     pub part-behind : Joined x a b → refusal x (Part a b) ≡ none
-    part-behind c =
-        part-accepted x a b
-        (record {
-          two = two-alike s x standing c a b (fits .two);
-          running = running-alike s x standing c a first (fits .running);
-          plain = rw (line-stands c);
-        })
+    part-behind c = part-accepted x a b (record { two = both-alike c; running = sender-runs c; plain = rw (line-stands c) })
 
     -- The receiver runs, so that a route leads there.
     pub receiver-runs : {q : Rank → Request} {l : Rank → Rank → Connection} → Calm x nobody q l → sound s ≡ true
         → isEnded (status x b) ≡ false
-    receiver-runs c hs = running-not-ended (status x b) (live-runs s x standing c b second (peer-lives s a b hs fits))
+    receiver-runs c hs = running-not-ended (status x b) (live-runs s x standing c b (fits .two .second) (peer-lives s a b hs fits))

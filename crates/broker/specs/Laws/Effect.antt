@@ -53,7 +53,8 @@ module _ {s s' : State} {c : Change} {about : Rank → Rank → Bool} (f : Facts
     message : (p : Place) → messageFits p (side s a b) (side s b a) ≡ true → not (about a b && c .bars p) ≡ true
         → messageFits (placeAnew c (about a b) (about b a) p) (side s' a b) (side s' b a) ≡ true
     order : (p q : Place) → upTo p q ≡ true → messageFits p (side s a b) (side s b a) ≡ true
-        → messageFits q (side s a b) (side s b a) ≡ true → upTo (placeAnew c (about a b) (about b a) p) (placeAnew c (about a b) (about b a) q) ≡ true
+        → messageFits q (side s a b) (side s b a) ≡ true
+        → upTo (placeAnew c (about a b) (about b a) p) (placeAnew c (about a b) (about b a) q) ≡ true
 
   demand : (a b : Rank) → a .0 < ranks → b .0 < ranks → about a b ≡ true → given c (side s a b) (side s b a) ≡ true
   demand a b ha hb is = both (both (pair-fits s (f .pairs) a b ha hb) (pair-fits s (f .pairs) b a hb ha)) (e .asked a b ha hb is)

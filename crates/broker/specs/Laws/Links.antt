@@ -34,28 +34,22 @@ pair-once p q d a b e = fails-right (sameRank a q) (other-rank b q p (sameRank-t
 pub not-twice : (p q x : Rank) → sameRank p q ≡ false → samePair p q x x ≡ false
 not-twice p q x d = by-test (sameRank x p) (λ e. rw (other-rank x p q d e)) (λ e. fails-right (sameRank x q) e)
 
-module _ (p q : Rank) (hp : p .0 < ranks) (hq : q .0 < ranks) (ls : List Link) (long : length ls ≡ cells) (f : Link → Link) where
+-- one link changed
+pub link-changed : (p q : Rank) → p .0 < ranks → q .0 < ranks → (ls : List Link) → length ls ≡ cells → (f : Link → Link) (a b : Rank)
+    → b .0 < ranks → linkAt (setLink ls p q (f (linkAt ls p q))) a b ≡ cond (samePair p q a b) (f (linkAt ls a b)) (linkAt ls a b)
+link-changed p q hp hq ls long f a b hb =
+    rw (link-set ls p q a b (f (linkAt ls p q)) long hp hq hb, and-comm (sameRank a p) (sameRank b q))
+    (by-test (samePair p q a b) (λ e. rw e (of-pair (λ x y. f (linkAt ls p q) ≡ f (linkAt ls x y)) a b refl e)) (λ e. rw e))
+
+-- both links of a pair changed, the one and then the other
+module _ (p q : Rank) (hp : p .0 < ranks) (hq : q .0 < ranks) (ls : List Link) (long : length ls ≡ cells) (f g : Link → Link) where
   abbrev changed : List Link
   changed = setLink ls p q (f (linkAt ls p q))
 
-  -- one link changed
-  pub link-changed : (a b : Rank) → b .0 < ranks → linkAt changed a b ≡ cond (samePair p q a b) (f (linkAt ls a b)) (linkAt ls a b)
-  link-changed a b hb =
-      rw (link-set ls p q a b (f (linkAt ls p q)) long hp hq hb, and-comm (sameRank a p) (sameRank b q))
-      (by-test (samePair p q a b)
-      (λ e. rw e (of-pair (λ x y. f (linkAt ls p q) ≡ f (linkAt ls x y)) a b refl e)) (λ e. rw e))
-
-  -- and then the link the other way
-  pub both-changed : (g : Link → Link) → sameRank p q ≡ false → (a b : Rank) → a .0 < ranks → b .0 < ranks
+  pub both-changed : sameRank p q ≡ false → (a b : Rank) → a .0 < ranks → b .0 < ranks
       → linkAt (setLink changed q p (g (linkAt changed q p))) a b
       ≡ cond (samePair p q a b) (f (linkAt ls a b)) (cond (samePair p q b a) (g (linkAt ls a b)) (linkAt ls a b))
-  both-changed g d a b ha hb =
-      link-changed′ ∙
-      rw (link-changed a b hb, and-comm (sameRank b p) (sameRank a q))
+  both-changed d a b ha hb =
+      link-changed q p hq hp changed (simp length-set long) g a b hb ∙
+      rw (link-changed p q hp hq ls long f a b hb, and-comm (sameRank b p) (sameRank a q))
       (by-test (samePair p q a b) (λ e. rw (e, pair-once p q d a b e)) (λ e. rw e))
-    where
-      link-changed′ : linkAt (setLink changed q p (g (linkAt changed q p))) a b ≡ cond (samePair q p a b) (g (linkAt changed a b)) (linkAt changed a b)
-      link-changed′ =
-          rw (link-set changed q p a b (g (linkAt changed q p)) (simp length-set long) hq hp hb, and-comm (sameRank a q) (sameRank b p))
-          (by-test (samePair q p a b)
-          (λ e. rw e (of-pair (λ x y. g (linkAt changed q p) ≡ g (linkAt changed x y)) a b refl e)) (λ e. rw e))

@@ -1,29 +1,21 @@
 -- Who migrates: an accepted move makes its rank migrate, its accepted landing ends that, and no other record changes it. Paper 01, "Lists
 -- of steps": "A move is open from its accepted 06 until its accepted 09." Assumes nothing.
-use mathlib.Core.Path.{_≡_, refl, sym, ap, _∙_}
+use mathlib.Core.Path.{_≡_, refl, sym, ap}
 use mathlib.Core.Bool.{Bool, true, false, cond, _&&_}
-use mathlib.Core.List.{List, [], _∷_}
+use mathlib.Core.List.{[], _∷_}
 use mathlib.Core.Option.{none}
 use Prim.Native.Nat.{_<_}
-use lib.ListN.{getD}
 use Rattle.base.specs.Laws.Stores.{store-unseen}
 use Rattle.base.specs.Laws.Tests.{by-test, not-both}
 use Rattle.transit.specs.Message.{sameRank, ranks}
 use Rattle.transit.specs.declared.Rank.{Rank}
 use Rattle.broker.specs.Checks.{is, refusal}
-use Rattle.broker.specs.Connect.{call, route, part}
+use Rattle.broker.specs.Connect.{part}
 use Rattle.broker.specs.Kind
-use Rattle.broker.specs.Laws.Accepted.{start-fits, move-fits, land-fits, end-fits, running-not-migrating}
+use Rattle.broker.specs.Laws.Accepted.{start-fits, move-fits, land-fits, end-fits, running-not-migrating, started-of-migrating}
 use Rattle.broker.specs.Laws.Cases.{drain-cases}
 use Rattle.broker.specs.Laws.Sound.{facts}
-use Rattle.broker.specs.Laws.Standings.{
-  standings,
-  standing-at,
-  standings-with-status,
-  standings-with-request,
-  call-unseen,
-  route-unseen,
-}
+use Rattle.broker.specs.Laws.Standings.{call-unseen, route-unseen}
 use Rattle.broker.specs.Laws.State.{status-with, status-with-request}
 use Rattle.broker.specs.Life.{start, end}
 use Rattle.broker.specs.State.{nextVmid, State, idle, status, withStatus}
@@ -35,7 +27,7 @@ use Rattle.broker.specs.Sound.{sound}
 use Rattle.broker.specs.Step.{apply}
 use Rattle.broker.specs.declared.process.Process.{Process}
 use Rattle.broker.specs.declared.process.Status.{Status}
-use Rattle.broker.specs.declared.process.Status.the-variants.{Unstarted, Running, Migrating, Ended}
+use Rattle.broker.specs.declared.process.Status.the-variants.{Running, Migrating, Ended}
 use Rattle.broker.specs.declared.record.Record.{Record}
 use Rattle.broker.specs.declared.record.Record.the-variants.{Start, Call, Route, Send, Take, Move, Heed, Drain, Land, Part, End, Look}
 
@@ -46,10 +38,7 @@ openAfter r before x =
     (cond (is (Kind.land ∷ []) x && sameRank r (firstRank x)) false before)
 
 unstarted-not-migrating : (t : Status) → isStarted t ≡ false → isMigrating t ≡ false
-unstarted-not-migrating Unstarted h = refl
-unstarted-not-migrating (Running v) h = refl
-unstarted-not-migrating (Migrating v w) h = absurd (not-both refl h)
-unstarted-not-migrating (Ended v) h = refl
+unstarted-not-migrating t h = by-test (isMigrating t) (λ e. absurd (not-both (started-of-migrating t e) h)) (λ e. e)
 
 -- The rank of an accepted record comes to stand so.
 migrates-as : (s y : State) (p : Rank) (t : Status) → sound s ≡ true → p .0 < ranks → y .processes ≡ withStatus p t s .processes

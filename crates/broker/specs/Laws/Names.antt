@@ -2,14 +2,14 @@
 -- Assumes nothing.
 use mathlib.Core.Path.{_≡_, refl, ap, _∙_}
 use mathlib.Core.Bool.{Bool, true, false, not, cond, _&&_}
-use mathlib.Core.List.{List, [], _∷_}
+use mathlib.Core.List.{List}
 use Prim.Native.Nat.{ℕ, _+_, _<_, _≤_}
 use native.Mathlib.Omega.{arith}
-use borrow.Author.Tests.{ltb-true, lt-ltb, leb-true, le-leb, eqb-true, eq-eqb}
-use lib.Dec.{eqb, leb, ltb}
+use borrow.Author.Tests.{lt-ltb, leb-true, le-leb, eqb-true, eq-eqb}
+use lib.Dec.{eqb, ltb}
 use lib.ListN.{length}
 use Rattle.base.specs.Laws.Stores.{getD-set}
-use Rattle.base.specs.Laws.Tests.{by-test, both, both-left, both-right, chosen, not-both, parts, chained, eqb-swap}
+use Rattle.base.specs.Laws.Tests.{by-test, both, both-left, both-right, chosen, not-both, eqb-swap}
 use Rattle.base.specs.Lists.{every}
 use Rattle.base.specs.Laws.Lists.{every-swap}
 use Rattle.transit.specs.declared.Rank.{Rank}

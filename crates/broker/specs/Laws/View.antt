@@ -30,8 +30,14 @@ pub record Side : Type 0 where
 abbrev pub sideOf : Status → Link → Bool → Side
 sideOf t l q = record { started = isStarted t; runs = isRunning t; migrates = isMigrating t; link = l; asks = q }
 
+abbrev pub linkOf : State → Rank → Rank → Link
+linkOf s a b = linkAt (s .links) a b
+
+abbrev pub callOf : State → Rank → Rank → Bool
+callOf s a b = asksFor b (request s a)
+
 abbrev pub side : State → Rank → Rank → Side
-side s a b = sideOf (status s a) (linkAt (s .links) a b) (asksFor b (request s a))
+side s a b = sideOf (status s a) (linkOf s a b) (callOf s a b)
 
 -- the clauses of soundness about a rank and itself
 abbrev pub nothing : Side → Bool

@@ -4,7 +4,7 @@ use mathlib.Core.Bool.{Bool, true, false, cond, not, and-comm, and-false}
 use mathlib.Core.List.{List}
 use Prim.Native.Nat.{ℕ, _<_}
 use lib.ListN.{length, length-set, getD}
-use Rattle.base.specs.Laws.Tests.{by-test, both-left, not-both, same-either}
+use Rattle.base.specs.Laws.Tests.{by-test, both-left, not-both, or-right, same-either}
 use Rattle.transit.specs.Message.{sameRank, ranks, cells}
 use Rattle.transit.specs.declared.Rank.{Rank}
 use Rattle.broker.specs.Connect.{call, part, routeToEnded, routeThere, routeOn, withdraw, connectBoth}
@@ -18,6 +18,7 @@ use Rattle.broker.specs.Laws.Accepted.{
   LandFits,
   PartFits,
   EndFits,
+  running-of,
   Two,
 }
 use Rattle.broker.specs.Laws.Changes.{
@@ -55,17 +56,28 @@ use Rattle.broker.specs.Laws.State.{
   status-with-request,
   request-with-status,
 }
-use Rattle.broker.specs.Laws.View.{Side, sideOf, side, Change, pairFits, messageFits, keeps}
+use Rattle.broker.specs.Laws.View.{Side, sideOf, linkOf, callOf, side, Change, keeps}
 use Rattle.broker.specs.Life.{start, end}
 use Rattle.broker.specs.Migrate.{move, heed, land}
-use Rattle.broker.specs.Names.{isStarted, isEnded, isLive, endpoint, isOpenRequest, asksFor, isClosed, isClear, isUnheeded}
+use Rattle.broker.specs.Names.{
+  isStarted,
+  isRunning,
+  isMigrating,
+  isEnded,
+  isLive,
+  endpoint,
+  isOpenRequest,
+  asksFor,
+  isClosed,
+  isClear,
+  isUnheeded,
+}
 use Rattle.broker.specs.State.{
   nextVmid,
   draw,
   await,
   State,
   idle,
-  linkAt,
   status,
   request,
   location,
@@ -83,7 +95,7 @@ use Rattle.broker.specs.declared.process.Process.{Process}
 use Rattle.broker.specs.declared.process.Request.{Request}
 use Rattle.broker.specs.declared.process.Request.the-variants.{Absent, Posted}
 use Rattle.broker.specs.declared.process.Status.{Status}
-use Rattle.broker.specs.declared.process.Status.the-variants.{Unstarted, Running, Migrating, Ended}
+use Rattle.broker.specs.declared.process.Status.the-variants.{Running, Migrating, Ended}
 use Rattle.broker.specs.declared.process.Vmid.{Vmid}
 
 -- a call that is not open goes to nobody, and one that goes to a rank to no other
@@ -113,19 +125,18 @@ withdraw-asks s long a b ha x y =
     (λ e. rw e (by-test (samePair a b x y) (λ g. rw g (of-pair (λ x y. asksFor y (request s x) ≡ false) x y e g)) (λ g. rw g)))
 
 live-of : (t : Status) → isStarted t ≡ true → isEnded t ≡ false → isLive t ≡ true
-live-of Unstarted h k = h
-live-of (Running v) h k = refl
-live-of (Migrating v w) h k = refl
-live-of (Ended v) h k = absurd (not-both refl k)
+live-of t h k = by-test (isMigrating t) (or-right (isRunning t)) (λ e. rw (running-of t h k e))
+
+-- nobody has a line to itself
+own-closed : (s : State) → Facts s → (a : Rank) → a .0 < ranks → isClosed (connection s a a) ≡ true
+own-closed s f a ha = both-left _ (isClear (backlog s a a)) (both-left _ (not (callOf s a a)) (f .pairs .nothing-with-self a ha))
 
 module _ (s s' : State) (f : Facts s) where
   -- a side by its parts
   side-anew : (x y : Rank) (p q : Bool) (t : Status) (l m : Link) (u v : Bool) → status s' x ≡ cond p t (status s x)
-      → linkAt (s' .links) x y ≡ cond p l (cond q m (linkAt (s .links) x y))
-      → asksFor y (request s' x) ≡ cond p u (cond q v (asksFor y (request s x)))
+      → linkOf s' x y ≡ cond p l (cond q m (linkOf s x y)) → callOf s' x y ≡ cond p u (cond q v (callOf s x y))
       → side s' x y ≡ cond p (sideOf t l u) (cond q (sideOf (status s x) m v) (side s x y))
-  side-anew x y p q t l m u v e g h =
-      rw (e, g, h) (by-test p (λ i. rw i) (λ i. by-test q (λ j. rw (i, j)) (λ j. rw (i, j))))
+  side-anew x y p q t l m u v e g h = rw (e, g, h) (by-test p (λ i. rw i) (λ i. by-test q (λ j. rw (i, j)) (λ j. rw (i, j))))
 
   -- One rank stands otherwise, and the links from it and to it by its lines: start, land, end and move.
   about-rank : (r : Rank) (t : Status) (left faced : Connection → Link → Link) (c : Change)
@@ -133,9 +144,8 @@ module _ (s s' : State) (f : Facts s) where
       → ((x y : Side) → c .other x y ≡ linkAs (faced (y .link .connection)) x)
       → ((k : Connection) (l : Link) → isClosed k ≡ true → left k l ≡ l)
       → ((a : Rank) → status s' a ≡ cond (sameRank a r) t (status s a)) → ((a : Rank) → request s' a ≡ request s a)
-      → ((a b : Rank) → a .0 < ranks → b .0 < ranks → linkAt (s' .links) a b
-      ≡ cond (sameRank a r) (left (connection s a b) (linkAt (s .links) a b))
-      (cond (sameRank b r) (faced (connection s b a) (linkAt (s .links) a b)) (linkAt (s .links) a b)))
+      → ((a b : Rank) → a .0 < ranks → b .0 < ranks → linkOf s' a b ≡ cond (sameRank a r) (left (connection s a b) (linkOf s a b))
+      (cond (sameRank b r) (faced (connection s b a) (linkOf s a b)) (linkOf s a b)))
       → keeps c ≡ true → ((b : Rank) → b .0 < ranks → c .asked (side s r b) (side s b r) ≡ true) → Effect s s' c (λ a b. sameRank a r)
   about-rank r t left faced c own other closed statuses requests links kept asked =
       record {
@@ -145,23 +155,23 @@ module _ (s s' : State) (f : Facts s) where
         sides =
             λ a b ha hb.
             rw (own (side s a b) (side s b a), other (side s a b) (side s b a))
-            (side-anew a b (sameRank a r) (sameRank b r) t _ _ _ _ (statuses a) (links a b ha hb) (rw (requests a, same-either, same-either)));
+            (side-anew a b (sameRank a r) (sameRank b r) t _ _ _ _ (statuses a) (links a b ha hb)
+            (rw (requests a, same-either, same-either)));
         self =
             λ a ha.
             let none = f .pairs .nothing-with-self a ha in
-            let shut = both-left (isClosed (connection s a a)) (isClear (backlog s a a)) (both-left _ (not (asksFor a (request s a))) none) in
             rw (links a a ha ha, requests a)
-            (by-test (sameRank a r) (λ e. rw (e, closed (connection s a a) (linkAt (s .links) a a) shut) none) (λ e. rw e none));
+            (by-test (sameRank a r) (λ e. rw (e, closed (connection s a a) (linkOf s a a) (own-closed s f a ha)) none) (λ e. rw e none));
       }
 
   -- The links of two ranks and their calls to one another change: call, route, part, heed and drain.
   about-pair : (a b : Rank) → sameRank a b ≡ false → (own other : Link → Link) (u v : Bool → Bool) (c : Change)
       → ((x y : Side) → c .own x y ≡ redone own u x) → ((x y : Side) → c .other x y ≡ redone other v x)
       → ((x : Rank) → status s' x ≡ status s x)
-      → ((x y : Rank) → x .0 < ranks → y .0 < ranks → linkAt (s' .links) x y
-      ≡ cond (samePair a b x y) (own (linkAt (s .links) x y)) (cond (samePair a b y x) (other (linkAt (s .links) x y)) (linkAt (s .links) x y)))
-      → ((x y : Rank) → asksFor y (request s' x)
-      ≡ cond (samePair a b x y) (u (asksFor y (request s x))) (cond (samePair a b y x) (v (asksFor y (request s x))) (asksFor y (request s x))))
+      → ((x y : Rank) → x .0 < ranks → y .0 < ranks
+      → linkOf s' x y ≡ cond (samePair a b x y) (own (linkOf s x y)) (cond (samePair a b y x) (other (linkOf s x y)) (linkOf s x y)))
+      → ((x y : Rank)
+      → callOf s' x y ≡ cond (samePair a b x y) (u (callOf s x y)) (cond (samePair a b y x) (v (callOf s x y)) (callOf s x y)))
       → keeps c ≡ true → c .asked (side s a b) (side s b a) ≡ true → Effect s s' c (samePair a b)
   about-pair a b apart own other u v c own-is other-is statuses links asks kept fits =
       record {
@@ -185,8 +195,8 @@ module _ (s : State) (f : Facts s) where
   linked = f .shape .links-long
 
   -- and nothing else
-  restood : (s' : State) (r : Rank) (t : Status) (c : Change) → r .0 < ranks → s' .processes ≡ withStatus r t s .processes → s' .links ≡ s .links
-      → ((x y : Side) → c .own x y ≡ standAs t x) → ((x y : Side) → c .other x y ≡ x) → keeps c ≡ true
+  restood : (s' : State) (r : Rank) (t : Status) (c : Change) → r .0 < ranks → s' .processes ≡ withStatus r t s .processes
+      → s' .links ≡ s .links → ((x y : Side) → c .own x y ≡ standAs t x) → ((x y : Side) → c .other x y ≡ x) → keeps c ≡ true
       → ((b : Rank) → b .0 < ranks → c .asked (side s r b) (side s b r) ≡ true) → Effect s s' c (λ a b. sameRank a r)
   restood s' r t c hr processes links own other kept asked =
       about-rank s s' f r t (λ k l. l) (λ k l. l) c own other (λ k l h. refl)
@@ -195,33 +205,31 @@ module _ (s : State) (f : Facts s) where
       (λ a b ha hb. rw (links, same-either, same-either)) kept asked
 
   pub start-effect : (r : Rank) (h : ℕ) → StartFits s r h → Effect s (start r h s .state) starting (λ a b. sameRank a r)
-  unfolding start keeps pairFits messageFits
+  unfolding start keeps
   start-effect r h k =
       restood (start r h s .state) r (Running (nextVmid s h)) starting (k .in-range) refl refl (λ x y. refl) (λ x y. refl) refl
       (λ b hb. rw (k .unstarted))
 
   pub end-effect : (r : Rank) → EndFits s r → Effect s (end r s .state) ending (λ a b. sameRank a r)
-  unfolding end keeps pairFits messageFits
+  unfolding end keeps
   end-effect r k =
       restood (end r s .state) r (Ended (endpoint (status s r))) ending (k .one .in-range) refl refl (λ x y. refl) (λ x y. refl) refl
       (λ b hb. rw (k .running, k .closed b hb, no-ask (request s r) b (k .idle)))
 
   pub land-effect : (r : Rank) → LandFits s r → Effect s (land r s .state) landing (λ a b. sameRank a r)
-  unfolding land keeps pairFits messageFits
+  unfolding land keeps
   land-effect r k =
       restood (land r s .state) r (Running (endpoint (status s r))) landing (k .one .in-range) refl refl (λ x y. refl) (λ x y. refl) refl
       (λ b hb. rw (k .migrating, k .clear b hb))
 
   pub move-effect : (r : Rank) (h : ℕ) → MoveFits s r h → Effect s (move r h s .state) moving (λ a b. sameRank a r)
-  unfolding move keeps pairFits messageFits
+  unfolding move keeps
   move-effect r h k =
       let hr = k .one .in-range in
       let t = Migrating (endpoint (status s r)) (nextVmid s h) in
-      let shut = both-left (isClosed (connection s r r)) (isClear (backlog s r r))
-      (both-left _ (not (asksFor r (request s r))) (f .pairs .nothing-with-self r hr)) in
       about-rank s (move r h s .state) f r t leftBy facedBy moving (λ x y. refl) (λ x y. refl) closed-stays
       (λ a. status-with (draw h s) r a t long hr) (λ a. request-with-status (draw h s) r a t)
-      (leaveAll-at r hr (s .links) linked shut) refl
+      (leaveAll-at r hr (s .links) linked (own-closed s f r hr)) refl
       (λ b hb. rw (k .running, no-ask (request s r) b (k .idle)))
 
   -- a's call is put anew, where it goes to nobody but b before and after
@@ -233,10 +241,12 @@ module _ (s : State) (f : Facts s) where
         about-pair s s' f a b (two .apart) (λ l. l) (λ l. l) (λ _. w) (λ u. u) c own-is other-is
         (λ x. ap (λ (ps : List Process). getD ps (x .0) idle .status) processes ∙ status-with-request s a x q)
         (λ x y hx hy. rw (links, same-either, same-either))
-        (λ x y. ap (λ (ps : List Process). asksFor y (getD ps (x .0) idle .request)) processes ∙ reasked s long a b (two .first) q other x y ∙ rw (asks, same-either))
+        (λ x y.
+        ap (λ (ps : List Process). asksFor y (getD ps (x .0) idle .request)) processes ∙ reasked s long a b (two .first) q other x y ∙
+        rw (asks, same-either))
 
   pub call-effect : (a b : Rank) → CallFits s a b → Effect s (call a b s .state) calling (samePair a b)
-  unfolding call keeps pairFits messageFits
+  unfolding call keeps
   call-effect a b k =
       recalled a b (Posted b (location s a b)) (λ y e. sameRank-turned y b e ∙ sym (no-ask (request s a) y (k .idle)))
       (call a b s .state) calling true (k .two) refl refl (λ x y. refl) (λ x y. refl) (sameRank-self b) refl
@@ -244,20 +254,20 @@ module _ (s : State) (f : Facts s) where
 
   module _ (a b : Rank) (k : RouteFits s a b) where
     pub route-ended-effect : Effect s (routeToEnded a b s .state) withdrawing (samePair a b)
-    unfolding keeps pairFits messageFits
+    unfolding keeps
     route-ended-effect =
         recalled a b Absent (λ y e. sym (same-ask (request s a) b y (k .asks) ∙ sameRank-turned y b e))
         (routeToEnded a b s .state) withdrawing false (k .two) refl refl (λ x y. refl) (λ x y. refl) refl refl refl
 
     pub route-on-effect : (v : Vmid) → Effect s (routeOn a b v s .state) reposting (samePair a b)
-    unfolding keeps pairFits messageFits
+    unfolding keeps
     route-on-effect v =
         recalled a b (Posted b v) (λ y e. sym (same-ask (request s a) b y (k .asks)))
         (routeOn a b v s .state) reposting true (k .two) refl refl (λ x y. refl) (λ x y. refl) (sameRank-self b) refl (k .asks)
 
     -- where the call arrives, the line stands and both calls close
     pub route-there-effect : (v : Vmid) → isEnded (status s b) ≡ false → Effect s (routeThere a b v s .state) joining (samePair a b)
-    unfolding keeps pairFits messageFits
+    unfolding keeps
     route-there-effect v living =
         let lined = connectBoth a b Open s in
         let uncalled = withdraw a b lined in
@@ -268,8 +278,8 @@ module _ (s : State) (f : Facts s) where
         withdraw-unseen (λ t. status t x) (λ t r q. status-with-request t r x q) b a uncalled ∙
         withdraw-unseen (λ t. status t x) (λ t r q. status-with-request t r x q) a b lined)
         (λ x y hx hy.
-        withdraw-unseen (λ t. linkAt (t .links) x y) (λ t r q. refl) b a uncalled ∙
-        withdraw-unseen (λ t. linkAt (t .links) x y) (λ t r q. refl) a b lined ∙
+        withdraw-unseen (λ t. linkOf t x y) (λ t r q. refl) b a uncalled ∙
+        withdraw-unseen (λ t. linkOf t x y) (λ t r q. refl) a b lined ∙
         both-changed a b (k .two .first) (k .two .second) (s .links) linked (connectAs Open) (connectAs Open) (k .two .apart) x y hx hy)
         (λ x y.
         withdraw-asks uncalled still b a (k .two .second) x y ∙
@@ -278,7 +288,7 @@ module _ (s : State) (f : Facts s) where
         refl (rw (k .asks) (live-of (status s b) (k .two .second-started) living))
 
   pub part-effect : (a b : Rank) → PartFits s a b → Effect s (part a b s .state) parting (samePair a b)
-  unfolding part keeps pairFits messageFits
+  unfolding part keeps
   part-effect a b k =
       about-pair s (part a b s .state) f a b (k .two .apart) (connectAs Closed) (connectAs Closed) (λ q. q) (λ q. q) parting
       (λ x y. refl) (λ x y. refl) (λ x. refl)
@@ -286,7 +296,7 @@ module _ (s : State) (f : Facts s) where
       (λ x y. rw (same-either, same-either)) refl (k .plain)
 
   pub heed-effect : (b r : Rank) → HeedFits s b r → Effect s (heed b r s .state) heeding (samePair b r)
-  unfolding heed keeps pairFits messageFits
+  unfolding heed keeps
   heed-effect b r k =
       about-pair s (heed b r s .state) f b r (k .two .apart) (connectAs Closed) (awaitAs Marked) (λ q. q) (λ q. q) heeding
       (λ x y. refl) (λ x y. refl) (λ x. refl)
@@ -295,7 +305,7 @@ module _ (s : State) (f : Facts s) where
 
   pub clear-effect : (r p : Rank) → DrainFits s r p → isUnheeded (backlog s r p) ≡ false
       → Effect s (withLinks (await r p Clear (s .links)) s) clearing (samePair r p)
-  unfolding keeps pairFits messageFits
+  unfolding keeps
   clear-effect r p k ready =
       about-pair s (withLinks (await r p Clear (s .links)) s) f r p (k .two .apart) (awaitAs Clear) (λ l. l) (λ q. q) (λ q. q) clearing
       (λ x y. refl) (λ x y. refl) (λ x. refl)

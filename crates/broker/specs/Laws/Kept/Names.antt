@@ -15,15 +15,9 @@ use Rattle.base.specs.Laws.Lists.{every-wider}
 use Rattle.transit.specs.Message.{sameRank, isRank, ranks, cells}
 use Rattle.transit.specs.Unread.{Unread}
 use Rattle.transit.specs.declared.Rank.{Rank}
-use Rattle.broker.specs.Connect.{call, route, part, withdraw}
+use Rattle.broker.specs.Connect.{call, part, withdraw}
 use Rattle.broker.specs.Laws.Accepted.{
   One,
-  StartFits,
-  CallFits,
-  RouteFits,
-  MoveFits,
-  LandFits,
-  EndFits,
   start-fits,
   call-fits,
   route-fits,
@@ -34,8 +28,8 @@ use Rattle.broker.specs.Laws.Accepted.{
   migrating-not-ended,
 }
 use Rattle.broker.specs.Laws.Cases.{chosen-at, route-cases, drain-cases}
-use Rattle.base.specs.Laws.Stores.{long-set}
 use Rattle.broker.specs.Checks.{refusal}
+use Rattle.base.specs.Laws.Stores.{long-set}
 use Rattle.broker.specs.Laws.Each.{announced-own, announced-other}
 use Rattle.broker.specs.Laws.Kept.Shape.{shape-with-locations, shape-with-drawn, shape-connect, shape-withdraw}
 use Rattle.broker.specs.Laws.Names.{
@@ -102,18 +96,6 @@ names-elsewhere ls u n =
       vmids-apart = n .vmids-apart;
     }
 
--- what a rank's new standing has to be in a state whose names are sound, and what the tables then have to say of the rank
-record Stands (s : State) (r : Rank) (t : Status) : Type 0 where
-  in-range : r .0 < ranks
-  started : isStarted t ≡ true
-  drawn : every (isDrawn s) (vmidsOf t) ≡ true
-  alone : distinct (processesOf t) ≡ true
-  apart : (b : Rank) → b .0 < ranks → sameRank b r ≡ false → noneShared (processesOf t) (processesOf (status s b)) ≡ true
-
-record Tells (s : State) (r : Rank) (ls : List Vmid) : Type 0 where
-  of-it : (a : Rank) → a .0 < ranks → isDrawn s (getD ls (cell a r) unknown) ≡ true
-  of-others : (a b : Rank) → b .0 < ranks → sameRank b r ≡ false → getD ls (cell a b) unknown ≡ location s a b
-
 module _ {s : State} (f : Shape s) (n : Names s) where
   -- a call to a rank in range, posted to a vmid that is drawn
   names-with-request : (r : Rank) (q : Request) → r .0 < ranks → ofCall isRank (isDrawn s) q ≡ true → Names (withRequest r q s)
@@ -172,33 +154,38 @@ module _ {s : State} (f : Shape s) (n : Names s) where
       every-wider (isDrawn s) (λ w. not (sameVmid (nextVmid s h) w)) (next-apart s h) (processesOf (status s b))
       (processes-in (isDrawn s) (status s b) (n .vmids-drawn b hb))
 
-  -- a rank's standing, and the tables with it
-  names-with-status : (r : Rank) (t : Status) (ls : List Vmid) → Stands s r t → Tells s r ls → Names (withLocations ls (withStatus r t s))
-  names-with-status r t ls k l =
+  -- a rank's standing, whose vmids are drawn and no other rank's, and the tables with it
+  names-with-status : (r : Rank) (t : Status) (ls : List Vmid) → r .0 < ranks → isStarted t ≡ true
+      → every (isDrawn s) (vmidsOf t) ≡ true → distinct (processesOf t) ≡ true
+      → ((b : Rank) → b .0 < ranks → sameRank b r ≡ false → noneShared (processesOf t) (processesOf (status s b)) ≡ true)
+      → ((a : Rank) → a .0 < ranks → isDrawn s (getD ls (cell a r) unknown) ≡ true)
+      → ((a b : Rank) → b .0 < ranks → sameRank b r ≡ false → getD ls (cell a b) unknown ≡ location s a b)
+      → Names (withLocations ls (withStatus r t s))
+  names-with-status r t ls in-range started drawn alone apart of-it of-others =
       record {
         numbers-in-range = n .numbers-in-range;
         vmids-drawn =
             λ a ha.
             rw (after a)
-            (chosen (λ x. every (isDrawn s) (vmidsOf x) ≡ true) (sameRank a r) t (status s a) (λ _. k .drawn) (λ _. n .vmids-drawn a ha));
+            (chosen (λ x. every (isDrawn s) (vmidsOf x) ≡ true) (sameRank a r) t (status s a) (λ _. drawn) (λ _. n .vmids-drawn a ha));
         calls-drawn = λ a ha. rw (request-with-status s r a t) (n .calls-drawn a ha);
         tables-drawn =
             λ a b ha hb.
             rw (after b)
-            (chosen-at (told a) r b t (status s b) (rw (k .started) (l .of-it a ha))
-            (λ e. rw (l .of-others a b hb e) (n .tables-drawn a b ha hb)));
+            (chosen-at (told a) r b t (status s b) (rw started (of-it a ha))
+            (λ e. rw (of-others a b hb e) (n .tables-drawn a b ha hb)));
         vmids-apart =
             λ a b ha hb.
             rw (after a, after b)
             (chosen-at (λ p x. separate p b x (cond (sameRank b r) t (status s b))) r a t (status s a)
-            (chosen-at (λ q y. separate r q t y) r b t (status s b) (rw (sameRank-self r) (k .alone))
-            (λ e. rw (eqb-swap (r .0) (b .0), e) (k .apart b hb e)))
+            (chosen-at (λ q y. separate r q t y) r b t (status s b) (rw (sameRank-self r) alone)
+            (λ e. rw (eqb-swap (r .0) (b .0), e) (apart b hb e)))
             (λ e. chosen-at (λ q y. separate a q (status s a) y) r b t (status s b)
-            (rw e (noneShared-swap (processesOf t) (processesOf (status s a)) (k .apart a ha e))) (λ _. n .vmids-apart a b ha hb)));
+            (rw e (noneShared-swap (processesOf t) (processesOf (status s a)) (apart a ha e))) (λ _. n .vmids-apart a b ha hb)));
       }
     where
       after : (a : Rank) → status (withStatus r t s) a ≡ cond (sameRank a r) t (status s a)
-      after a = status-with s r a t (f .processes-long) (k .in-range)
+      after a = status-with s r a t (f .processes-long) in-range
 
       told : Rank → Rank → Status → Type 0
       told a b x = cond (isStarted x) (isDrawn s (getD ls (cell a b) unknown)) (sameVmid (getD ls (cell a b) unknown) unknown) ≡ true
@@ -211,8 +198,8 @@ module _ {s : State} (f : Shape s) (n : Names s) where
     end-drawn : isDrawn s (endpoint (status s r)) ≡ true
     end-drawn = endpoint-in (isDrawn s) (status s r) started (n .vmids-drawn r in-range)
 
-    as-told : Tells s r (s .locations)
-    as-told = record { of-it = λ a ha. rw started at (n .tables-drawn a r ha in-range); of-others = λ a b hb e. refl }
+    as-told : (a : Rank) → a .0 < ranks → isDrawn s (location s a r) ≡ true
+    as-told a ha = rw started at (n .tables-drawn a r ha in-range)
 
     end-unshared : isEnded (status s r) ≡ false → (b : Rank) → b .0 < ranks → sameRank b r ≡ false
         → every (λ w. not (sameVmid (endpoint (status s r)) w)) (processesOf (status s b)) ≡ true
@@ -220,113 +207,78 @@ module _ {s : State} (f : Shape s) (n : Names s) where
         endpoint-in (λ v. every (λ w. not (sameVmid v w)) (processesOf (status s b))) (status s r) started
         (rw (eqb-swap (r .0) (b .0), e, processes-all (status s r) live) at (n .vmids-apart r b in-range hb))
 
-  -- a call that closes, if there is one
-  names-withdraw : (a b : Rank) → a .0 < ranks → Names (withdraw a b s)
-  names-withdraw a b ha =
-      chosen Names (asksFor b (request s a)) (withRequest a Absent s) s (λ _. names-with-request a Absent ha refl) (λ _. n)
-
--- the kinds that change a name
-module _ {s : State} (f : Shape s) (n : Names s) where
-  names-start : (r : Rank) (h : ℕ) → StartFits s r h → Names (start r h s .state)
-  unfolding start
-  names-start r h k =
-      let v = nextVmid s h in
-      let drawn = next-drawn s h (f .drawn-long) (k .host) in
-      names-with-status (shape-with-drawn h (v .1) f) (names-draw f n h (k .host) (k .room)) r (Running v) (announced r v (s .locations))
-      (record {
-        in-range = k .in-range;
-        started = refl;
-        drawn = both drawn refl;
-        alone = refl;
-        apart = λ b hb _. both (next-unshared f n h b hb) refl;
-      })
-      (record {
-        of-it = λ a ha. rw (announced-own r v (s .locations) (f .locations-long) a ha (k .in-range)) drawn;
-        of-others = λ a b hb. announced-other r v (s .locations) (f .locations-long) a b hb (k .in-range);
-      })
-
-  names-move : (r : Rank) (h : ℕ) → MoveFits s r h → Names (move r h s .state)
-  unfolding move
-  names-move r h k =
-      let in-range = k .one .in-range in
-      let started = k .one .started in
-      let source = endpoint (status s r) in
-      let target = nextVmid s h in
-      let known = end-drawn f n r in-range started in
-      let shape = shape-with-drawn h (target .1) f in
-      let names = names-draw f n h (k .host) (k .room) in
-      let unshared = end-unshared f n r in-range started (running-not-ended (status s r) (k .running)) in
-      names-elsewhere _ _
-      (names-with-status shape names r (Migrating source target) (s .locations)
-      (record {
-        in-range = in-range;
-        started = refl;
-        drawn = both (still-drawn s h (f .drawn-long) (k .host) source known) (both (next-drawn s h (f .drawn-long) (k .host)) refl);
-        alone = both (both (rw (sameVmid-swap target source) at (next-apart s h source known)) refl) refl;
-        apart = λ b hb e. both (unshared b hb e) (both (next-unshared f n h b hb) refl);
-      })
-      (as-told shape names r in-range started))
-
   -- a started rank comes to stand so, with its current end as its only vmid
   names-at-end : (r : Rank) (t : Status) → One s r → isStarted t ≡ true → vmidsOf t ≡ endpoint (status s r) ∷ []
       → distinct (processesOf t) ≡ true
       → ((b : Rank) → b .0 < ranks → sameRank b r ≡ false → noneShared (processesOf t) (processesOf (status s b)) ≡ true)
       → Names (withStatus r t s)
   names-at-end r t one started vmids alone apart =
-      names-with-status f n r t (s .locations)
-      (record {
-        in-range = one .in-range;
-        started = started;
-        alone = alone;
-        apart = apart;
-        drawn = rw vmids (both (end-drawn f n r (one .in-range) (one .started)) refl);
-      })
-      (as-told f n r (one .in-range) (one .started))
+      names-with-status r t (s .locations) (one .in-range) started
+      (rw vmids (both (end-drawn r (one .in-range) (one .started)) refl)) alone apart
+      (as-told r (one .in-range) (one .started)) (λ a b hb e. refl)
 
-  names-land : (r : Rank) → LandFits s r → Names (land r s .state)
-  unfolding land
-  names-land r k =
-      let unshared = end-unshared f n r (k .one .in-range) (k .one .started) (migrating-not-ended (status s r) (k .migrating)) in
-      names-elsewhere _ _
-      (names-at-end r (Running (endpoint (status s r))) (k .one) refl refl refl (λ b hb e. both (unshared b hb e) refl))
-
-  names-end : (r : Rank) → EndFits s r → Names (end r s .state)
-  unfolding end
-  names-end r k = names-at-end r (Ended (endpoint (status s r))) (k .one) refl refl refl (λ b hb e. refl)
-
-  names-call : (a b : Rank) → CallFits s a b → Names (call a b s .state)
-  unfolding call
-  names-call a b k =
-      let second = k .two .second in
-      names-with-request f n a (Posted b (location s a b)) (k .two .first)
-      (both (lt-ltb (b .0) ranks second) (as-told f n b second (k .two .second-started) .of-it a (k .two .first)))
-
-  names-route : (a b : Rank) → RouteFits s a b → Names (route a b s .state)
-  names-route a b k =
-      let first = k .two .first in
-      let second = k .two .second in
-      let started = k .two .second-started in
-      let v = endpoint (status s b) in
-      let drawn = end-drawn f n b second started in
-      let joined = shape-connect a b Open f in
-      let told = shape-with-locations _ (long-set cells (s .locations) (cell a b) v (f .locations-long)) f in
-      route-cases Names a b s (names-with-request f n a Absent first refl)
-      (names-withdraw (shape-withdraw a b joined) (names-withdraw joined (names-elsewhere _ _ n) a b first) b a second)
-      (names-with-request told (names-with-location f n a b v first second started drawn) a (Posted b v) first
-      (both (lt-ltb (b .0) ranks second) drawn))
+  -- a call that closes, if there is one
+  names-withdraw : (a b : Rank) → a .0 < ranks → Names (withdraw a b s)
+  names-withdraw a b ha =
+      chosen Names (asksFor b (request s a)) (withRequest a Absent s) s (λ _. names-with-request a Absent ha refl) (λ _. n)
 
 -- every accepted record keeps the names sound
 pub names-kept : (named : Rank) (s : State) (r : Record) → Facts s → refusal s r ≡ none → Names (apply named r s .state)
-unfolding apply part send take look heed
-names-kept named s (Start r h) f p = names-start (f .shape) (f .names) r h (start-fits s r h p)
-names-kept named s (Call a b) f p = names-call (f .shape) (f .names) a b (call-fits s a b p)
-names-kept named s (Route a b) f p = names-route (f .shape) (f .names) a b (route-fits s a b p)
+unfolding apply start call send take move heed land part end look
+names-kept named s (Start r h) f p =
+    let k = start-fits s r h p in
+    let v = nextVmid s h in
+    let drawn = next-drawn s h (f .shape .drawn-long) (k .host) in
+    let long = f .shape .locations-long in
+    names-with-status (shape-with-drawn h (v .1) (f .shape)) (names-draw (f .shape) (f .names) h (k .host) (k .room)) r (Running v)
+    (announced r v (s .locations)) (k .in-range) refl (both drawn refl) refl
+    (λ b hb _. both (next-unshared (f .shape) (f .names) h b hb) refl)
+    (λ a ha. rw (announced-own r v (s .locations) long a ha (k .in-range)) drawn)
+    (λ a b hb. announced-other r v (s .locations) long a b hb (k .in-range))
+names-kept named s (Call a b) f p =
+    let two = call-fits s a b p .two in
+    names-with-request (f .shape) (f .names) a (Posted b (location s a b)) (two .first)
+    (both (lt-ltb (b .0) ranks (two .second)) (as-told (f .shape) (f .names) b (two .second) (two .second-started) a (two .first)))
+names-kept named s (Route a b) f p =
+    let two = route-fits s a b p .two in
+    let v = endpoint (status s b) in
+    let drawn = end-drawn (f .shape) (f .names) b (two .second) (two .second-started) in
+    let joined = shape-connect a b Open (f .shape) in
+    let told = shape-with-locations _ (long-set cells (s .locations) (cell a b) v (f .shape .locations-long)) (f .shape) in
+    route-cases Names a b s (names-with-request (f .shape) (f .names) a Absent (two .first) refl)
+    (names-withdraw (shape-withdraw a b joined) (names-withdraw joined (names-elsewhere _ _ (f .names)) a b (two .first)) b a (two .second))
+    (names-with-request told
+    (names-with-location (f .shape) (f .names) a b v (two .first) (two .second) (two .second-started) drawn) a (Posted b v) (two .first)
+    (both (lt-ltb (b .0) ranks (two .second)) drawn))
 names-kept named s (Send a b v) f p = names-elsewhere _ _ (f .names)
 names-kept named s (Take b a) f p = names-elsewhere _ _ (f .names)
-names-kept named s (Move r h) f p = names-move (f .shape) (f .names) r h (move-fits s r h p)
+names-kept named s (Move r h) f p =
+    let k = move-fits s r h p in
+    let one = k .one in
+    let source = endpoint (status s r) in
+    let target = nextVmid s h in
+    let known = end-drawn (f .shape) (f .names) r (one .in-range) (one .started) in
+    let still = still-drawn s h (f .shape .drawn-long) (k .host) source known in
+    let shape = shape-with-drawn h (target .1) (f .shape) in
+    let names = names-draw (f .shape) (f .names) h (k .host) (k .room) in
+    let live = running-not-ended (status s r) (k .running) in
+    let unshared = end-unshared (f .shape) (f .names) r (one .in-range) (one .started) live in
+    names-elsewhere _ _
+    (names-with-status shape names r (Migrating source target) (s .locations) (one .in-range) refl
+    (both still (both (next-drawn s h (f .shape .drawn-long) (k .host)) refl))
+    (both (both (rw (sameVmid-swap target source) at (next-apart s h source known)) refl) refl)
+    (λ b hb e. both (unshared b hb e) (both (next-unshared (f .shape) (f .names) h b hb) refl))
+    (as-told shape names r (one .in-range) (one .started)) (λ a b hb e. refl))
 names-kept named s (Heed b r) f p = names-elsewhere _ _ (f .names)
 names-kept named s (Drain r q) f p = drain-cases Names r q s (names-elsewhere _ _ (f .names)) (names-elsewhere _ _ (f .names))
-names-kept named s (Land r) f p = names-land (f .shape) (f .names) r (land-fits s r p)
+names-kept named s (Land r) f p =
+    let k = land-fits s r p in
+    let one = k .one in
+    let live = migrating-not-ended (status s r) (k .migrating) in
+    let unshared = end-unshared (f .shape) (f .names) r (one .in-range) (one .started) live in
+    names-elsewhere _ _
+    (names-at-end (f .shape) (f .names) r (Running (endpoint (status s r))) one refl refl refl (λ b hb e. both (unshared b hb e) refl))
 names-kept named s (Part a b) f p = names-elsewhere _ _ (f .names)
-names-kept named s (End r) f p = names-end (f .shape) (f .names) r (end-fits s r p)
+names-kept named s (End r) f p =
+    names-at-end (f .shape) (f .names) r (Ended (endpoint (status s r))) (end-fits s r p .one) refl refl refl (λ b hb e. refl)
 names-kept named s (Look r) f p = f .names

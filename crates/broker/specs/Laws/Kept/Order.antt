@@ -20,7 +20,7 @@ use Rattle.base.specs.Laws.Lists.{
   changeFirst-same,
   changeFirst-other,
 }
-use Rattle.base.specs.Laws.Rising.{every-chosen, without-shorter, neverFalls-changeFirst, neverFalls-append, neverFalls-without}
+use Rattle.base.specs.Laws.Rising.{every-chosen, without-shorter, neverFalls-append, neverFalls-without, neverFalls-changeFirst}
 use Rattle.base.specs.Laws.Tests.{by-test, both, both-left, both-right}
 use Rattle.transit.specs.Laws.Operations.{relabels-first}
 use Rattle.transit.specs.Laws.Pairs.{places, append-length, append-places, append-keeps-places, firstTo-length}

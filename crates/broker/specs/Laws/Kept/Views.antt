@@ -36,7 +36,7 @@ use Rattle.broker.specs.Connect.{call, route, part, onChannel}
 use Rattle.broker.specs.Laws.Accepted
 use Rattle.broker.specs.Laws.Changes.{shift}
 use Rattle.broker.specs.Laws.Effect.{Effect, pairs-stay, placedAnew, Unbarred, messages-stay, order-stays}
-use Rattle.broker.specs.Laws.Fit.{at-place, guarded, tested-two, tested-pair, stands, pair-fits, messages-fit, fits}
+use Rattle.broker.specs.Laws.Fit.{at-place, guarded, tested-two, tested-pair, stands, pair-fits, pairs-from-fits, messages-fit, fits}
 use Rattle.broker.specs.Laws.Kept.Effects
 use Rattle.broker.specs.Laws.Kept.Order.{InOrder, append-keeps, without-keeps, first-keeps}
 use Rattle.broker.specs.Laws.Links.{sender-of, receiver-of}
@@ -155,21 +155,8 @@ module _ (s : State) (f : Facts s) where
   -- a state that differs in its messages alone
   views-with : (u : Unread) → every (fits s) (u .messages) ≡ true → InOrder u → Views (withUnread u s)
   views-with u placed order =
-      let p = f .pairs in
-      record {
-        pairs =
-            record {
-              nothing-with-self = p .nothing-with-self;
-              lines-belong = p .lines-belong;
-              plain-both-sides = p .plain-both-sides;
-              notice-faces-none = p .notice-faces-none;
-              awaits-belong = p .awaits-belong;
-              unheeded-is-notice = p .unheeded-is-notice;
-              calls-fit = p .calls-fit;
-            };
-        placed = placed;
-        order = order;
-      }
+      let pairs = pairs-from-fits (withUnread u s) (f .pairs .nothing-with-self) (λ a b ha hb d. pair-fits s (f .pairs) a b ha hb) in
+      record { pairs = pairs; placed = placed; order = order }
 
   views-send : (a b : Rank) (v : ℕ) → Accepted.SendFits s a b → Views (send a b v s .state)
   unfolding send
