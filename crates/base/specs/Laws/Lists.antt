@@ -69,14 +69,6 @@ module _ {A : Type 0} where
       (λ e. simp e (both-right (p x) _ all))
       (λ e. simp (e, both-left (p x) _ all, every-without p q l (both-right (p x) _ all)))
 
-  -- A change of each that passes q leads from p at every element to r at every element, if it does at those that it changes and at
-  -- those that it does not.
-  pub every-changeEach : (p q r : A → Bool) (f : A → A) → ((x : A) → p x ≡ true → q x ≡ true → r (f x) ≡ true)
-      → ((x : A) → p x ≡ true → q x ≡ false → r x ≡ true) → (l : List A) → every p l ≡ true → every r (map (changeEach q f) l) ≡ true
-  every-changeEach p q r f changed kept l all =
-      every-map r (changeEach q f) l
-      ∙ every-wider p (λ x. r (changeEach q f x)) (λ x h. by-test (q x) (λ e. simp e (changed x h e)) (λ e. simp e (kept x h e))) l all
-
   -- What a change of one that passes q keeps true, passes at every element after it.
   pub every-changeFirst : (p q : A → Bool) (f : A → A) → ((x : A) → p x ≡ true → q x ≡ true → p (f x) ≡ true)
       → (l : List A) → every p l ≡ true → every p (changeFirst q f l) ≡ true
@@ -211,16 +203,6 @@ module _ {A : Type 0} where
   pub changeEach-keeps : {B : Type 0} (g : A → B) (q : A → Bool) (f : A → A) → ((x : A) → g (f x) ≡ g x)
       → (x : A) → g (changeEach q f x) ≡ g x
   changeEach-keeps g q f kept x = by-test (q x) (λ e. simp (e, kept x)) (λ e. simp e)
-
-  -- What a change does to what is read of each element, it does to what is read of all that pass a test that does not see it.
-  pub map-follows : {B : Type 0} (g : A → B) (h : B → B) (p : A → Bool) (f : A → A) → ((x : A) → p (f x) ≡ p x)
-      → ((x : A) → p x ≡ true → g (f x) ≡ h (g x))
-      → (l : List A) → map g (select p (map f l)) ≡ map h (map g (select p l))
-  map-follows g h p f kept follows [] = refl
-  map-follows g h p f kept follows (x ∷ l) =
-      by-test (p x)
-      (λ e. simp (kept x, e, follows x e, map-follows g h p f kept follows l))
-      (λ e. simp (kept x, e, map-follows g h p f kept follows l))
 
   -- Where q is the narrower test, the first that passes it is changed in what passes p.
   pub changeFirst-same : (p q : A → Bool) (f : A → A) → ((x : A) → p (f x) ≡ p x) → ((x : A) → q x ≡ true → p x ≡ true)

@@ -28,16 +28,6 @@ neverFalls-append (y ∷ l) x sorted below =
     let first : every (leb y) (l ++ x ∷ []) ≡ true = rw (every-append, both-left (every (leb y) l) _ sorted, both-left (leb y x) _ below) in
     both first (neverFalls-append l x (both-right (every (leb y) l) _ sorted) (both-right (leb y x) _ below))
 
--- A change that keeps the order of the numbers that occur keeps them from falling.
-pub neverFalls-map : (f : ℕ → ℕ) (p : ℕ → Bool) → ((x y : ℕ) → p x ≡ true → p y ≡ true → leb x y ≡ true → leb (f x) (f y) ≡ true)
-    → (l : List ℕ) → every p l ≡ true → neverFalls l ≡ true → neverFalls (map f l) ≡ true
-neverFalls-map f p keeps [] occur sorted = refl
-neverFalls-map f p keeps (x ∷ l) occur sorted =
-    let here = both-left (p x) _ occur in
-    let others = both-right (p x) _ occur in
-    let first = every-both p (leb x) (λ y. leb (f x) (f y)) (λ y h. keeps x y here h) l others (both-left (every (leb x) l) _ sorted) in
-    both {a = every (leb (f x)) (map f l)} (rw every-map first) (neverFalls-map f p keeps l others (both-right (every (leb x) l) _ sorted))
-
 module _ {A : Type 0} where
   -- Numbers of which one is left out still never fall.
   pub neverFalls-without : (f : A → ℕ) (q : A → Bool) (l : List A) → neverFalls (map f l) ≡ true → neverFalls (map f (without q l)) ≡ true
@@ -70,7 +60,8 @@ module _ {A : Type 0} where
   neverFalls-kept g h p rises (x ∷ l) all sorted =
       let others = both-right (p x) (every p l) all in
       let first : every (λ y. leb (g x) (g y)) l ≡ true = rw every-map at (both-left (every (leb (g x)) (map g l)) _ sorted) in
-      both {a = every (leb (h x)) (map h l)} (rw every-map (every-both p _ (λ y. leb (h x) (h y)) (λ y. rises x y (both-left (p x) _ all)) l others first))
+      let first' = every-both p _ (λ y. leb (h x) (h y)) (λ y. rises x y (both-left (p x) _ all)) l others first in
+      both {a = every (leb (h x)) (map h l)} (rw every-map first')
       (neverFalls-kept g h p rises l others (both-right (every (leb (g x)) (map g l)) _ sorted))
 
   -- Numbers of elements that all pass p never fall when that of the first that passes q is lowered, if p does not see the change and the
