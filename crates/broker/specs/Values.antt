@@ -213,6 +213,14 @@ part =
 abbrev pub end : Edge
 end = record { steps = opening ++ answers (Kind.end ∷ 2 ∷ []) 0 0 0 ∷ []; then = λ s. isEnded (status s (rank 2)) }
 
+-- 0C: "v1 a rank with a message unread by r": the steps of a run name rank 0
+abbrev pub look : Edge
+look =
+    record {
+      steps = opening ++ joining 0 1 ++ sending 0 1 10 ∷ answers (Kind.look ∷ 1 ∷ []) 0 0 0 ∷ [];
+      then = answered;
+    }
+
 pub record ValuesHold : Type 0 where
   pub of-start : holds start ≡ true
   pub of-call : holds call ≡ true
@@ -227,3 +235,4 @@ pub record ValuesHold : Type 0 where
   pub of-land : holds land ≡ true
   pub of-part : holds part ≡ true
   pub of-end : holds end ≡ true
+  pub of-look : holds look ≡ true

@@ -21,4 +21,5 @@ values-hold =
       of-land = by-computing Values.land refl;
       of-part = by-computing Values.part refl;
       of-end = by-computing Values.end refl;
+      of-look = by-computing Values.look refl;
     }

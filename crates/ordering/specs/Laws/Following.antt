@@ -17,7 +17,19 @@ use Rattle.broker.specs.State.{State}
 use Rattle.broker.specs.Step.{apply}
 use Rattle.broker.specs.declared.record.Decoded.the-variants.{Whole}
 use Rattle.broker.specs.declared.record.Record.{Record}
-use Rattle.ordering.specs.Claim.{Reading, isBytes, areBytes, Entry, after, accepted, everyAccepted, records, taken, fiveKinds, unbroken}
+use Rattle.ordering.specs.Claim.{
+  Reading,
+  Entry,
+  after,
+  accepted,
+  everyAccepted,
+  records,
+  taken,
+  fiveKinds,
+  unbroken,
+  isBytes,
+  areBytes,
+}
 use Rattle.ordering.specs.Laws.Runs.{entry, taken-cons, five-cons, carried-enters, carried-leaves}
 
 -- a list of accepted steps from q, where a move of the given rank is open: its moves are unbroken, its steps of the five kinds and its

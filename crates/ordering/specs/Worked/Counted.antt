@@ -1,7 +1,7 @@
 -- What the claim counts: which steps are accepted, which values are sent, taken and unread from one rank to another, where a move is open,
 -- and which logs are bytes. Computed from the definitions. Assumes nothing.
 use mathlib.Core.Path.{_≡_, refl, ap}
-use mathlib.Core.Bool.{Bool, true, false}
+use mathlib.Core.Bool.{true, false}
 use mathlib.Core.List.{List, [], _∷_, _++_, map}
 use Prim.Native.Nat.{ℕ}
 use lib.ListN.{replicate}

@@ -2,9 +2,9 @@
 -- stand anywhere else": which lists of records are unbroken and which are not, and which records are of the five kinds. Computed from the
 -- definitions. Assumes nothing.
 use mathlib.Core.Path.{_≡_, refl}
-use mathlib.Core.Bool.{Bool, true, false}
+use mathlib.Core.Bool.{true, false}
 use mathlib.Core.List.{List, [], _∷_, _++_, map}
-use mathlib.Core.Option.{none, some}
+use mathlib.Core.Option.{none}
 use Rattle.transit.specs.Message.{rank}
 use Rattle.broker.specs.declared.record.Record.{Record}
 use Rattle.broker.specs.declared.record.Record.the-variants.{Start, Call, Route, Send, Take, Move, Heed, Drain, Land, Part, End, Look}
