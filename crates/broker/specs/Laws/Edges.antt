@@ -5,16 +5,15 @@ use mathlib.Core.List.{List, [], _∷_}
 use lib.Dec.{T}
 use Rattle.broker.specs.Edges.{Try, Edge, plays, holds, A, B, C, D, E, F, G, G-lands, H, I, J, EdgesHold}
 use Rattle.base.specs.Laws.Tests.{true-of}
-use Rattle.broker.specs.Laws.Opened.{opened}
+use Rattle.broker.specs.Laws.Opened.{opened, openedSound}
 use Rattle.broker.specs.Laws.Step.{step-of-sound, step-keeps-sound}
 use Rattle.transit.specs.Message.{rank}
-use Rattle.broker.specs.Ranks.{everyRank, everyPair}
 use Rattle.broker.specs.Sound
 use Rattle.broker.specs.State.{State, fresh}
 use Rattle.broker.specs.Step.{Outcome, step, stepSound}
 
 pub fresh-is-sound : T (Sound.sound fresh)
-unfolding Sound.sound Sound.shaped Sound.namesSound Sound.numbersInRange Sound.vmidsDrawn Sound.callsDrawn Sound.tablesDrawn Sound.vmidsApart Sound.pairsSound Sound.nothingWithSelf Sound.linesBelong Sound.plainBothSides Sound.noticeFacesNone Sound.awaitsBelong Sound.unheededIsNotice Sound.callsFit Sound.messagesSound Sound.fewUnread Sound.messagesNamed Sound.endsFit Sound.unheededPlaces Sound.placesFit Sound.placesRise everyRank everyPair
+unfolding openedSound
 fresh-is-sound = tt
 
 -- From a sound state the test of soundness may be left out: every step passes it.

@@ -1,4 +1,5 @@
--- What a step and its checks are defined by, each to open in a proof by one name. Assumes nothing.
+-- What soundness, a step and its checks are defined by, each to open in a proof by one name. Assumes nothing.
+use mathlib.Core.Bool.{Bool}
 use mathlib.Core.List.{List}
 use mathlib.Core.Option.{Option}
 use Prim.Native.Nat.{ℕ}
@@ -11,6 +12,7 @@ use Rattle.broker.specs.Messages
 use Rattle.broker.specs.Migrate
 use Rattle.broker.specs.Ranks.{everyRank, everyPair, countRanks, eachRank}
 use Rattle.broker.specs.Record.{decode}
+use Rattle.broker.specs.Sound
 use Rattle.broker.specs.State.{State}
 use Rattle.broker.specs.Step.{Outcome, stepSound, settle, apply}
 use Rattle.broker.specs.declared.answer.Refusal.{Refusal}
@@ -20,6 +22,24 @@ use Rattle.broker.specs.declared.record.Record.{Record}
 unfoldable pub openedChecks : State → Record → Option Refusal
 unfolding Checks.refusal Checks.checks Checks.rankRange Checks.hostRange Checks.rankTwice Checks.notStarted Checks.alreadyStarted Checks.hasEnded Checks.firstMigrating Checks.notMigrating Checks.connected Checks.requestOpen Checks.noRequest Checks.notConnected Checks.peerMigrating Checks.noNotice Checks.sameHost Checks.backlogLeft Checks.noBacklog Checks.nothingToDrain Checks.nothingUnread Checks.unreadLeft Checks.full Checks.numbersSpent
 openedChecks s r = Checks.refusal s r
+
+-- the clauses on names, on pairs of ranks and on messages
+unfoldable pub openedNames : State → Bool
+unfolding Sound.namesSound Sound.numbersInRange Sound.vmidsDrawn Sound.callsDrawn Sound.tablesDrawn Sound.vmidsApart everyRank everyPair
+openedNames s = Sound.namesSound s
+
+unfoldable pub openedPairs : State → Bool
+unfolding Sound.pairsSound Sound.nothingWithSelf Sound.linesBelong Sound.plainBothSides Sound.noticeFacesNone Sound.awaitsBelong Sound.unheededIsNotice Sound.callsFit everyRank everyPair
+openedPairs s = Sound.pairsSound s
+
+unfoldable pub openedMessages : State → Bool
+unfolding Sound.messagesSound Sound.fewUnread Sound.messagesNamed Sound.endsFit Sound.unheededPlaces Sound.placesFit Sound.placesRise everyPair
+openedMessages s = Sound.messagesSound s
+
+-- whether a state is sound; where this is opened, every clause of soundness is open
+unfoldable pub openedSound : State → Bool
+unfolding Sound.sound Sound.shaped openedNames openedPairs openedMessages
+openedSound s = Sound.sound s
 
 -- a step of a sound state; where this is opened, all that it computes with is open
 unfoldable pub opened : Rank → State → List ℕ → ℕ → Outcome
