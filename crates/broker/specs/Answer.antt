@@ -6,7 +6,33 @@ use Rattle.broker.specs.declared.answer.Answer.{Answer}
 use Rattle.broker.specs.declared.answer.Answer.the-variants.{Accepted, Refused}
 use Rattle.broker.specs.declared.answer.Refusal.{Refusal}
 use Rattle.broker.specs.declared.answer.Values.{Values}
-use Rattle.broker.specs.declared.answer.Refusal.the-variants.{Unsound, UnknownKind, CutShort, RankRange, HostRange, SameRank, NotStarted, AlreadyStarted, HasEnded, IsMigrating, NotMigrating, Connected, RequestOpen, NoRequest, NotConnected, PeerMigrating, NoNotice, SameHost, BacklogLeft, NoBacklog, NothingToDrain, NothingUnread, UnreadLeft, Full, NumbersSpent}
+use Rattle.broker.specs.declared.answer.Refusal.the-variants.{
+  Unsound,
+  UnknownKind,
+  CutShort,
+  RankRange,
+  HostRange,
+  SameRank,
+  NotStarted,
+  AlreadyStarted,
+  HasEnded,
+  IsMigrating,
+  NotMigrating,
+  Connected,
+  RequestOpen,
+  NoRequest,
+  NotConnected,
+  PeerMigrating,
+  NoNotice,
+  SameHost,
+  BacklogLeft,
+  NoBacklog,
+  NothingToDrain,
+  NothingUnread,
+  UnreadLeft,
+  Full,
+  NumbersSpent,
+}
 
 -- the number of each row of the table of checks
 abbrev pub refusalNumber : Refusal → ℕ

@@ -9,14 +9,49 @@ use Rattle.base.specs.Lists.{every, tally, anyOf}
 use Rattle.transit.specs.Message.{sameRank, between, to, at, isRank}
 use Rattle.transit.specs.Unread.{limit}
 use Rattle.transit.specs.declared.Place.the-variants.{SourceChannel}
-use Rattle.transit.specs.declared.Rank.{Rank}
 use Rattle.broker.specs.Kind
-use Rattle.broker.specs.Names.{hosts, numbers, isStarted, isMigrating, isEnded, endpoint, isOpenRequest, asksFor, isClosed, isClosing, isClear, isUnheeded}
+use Rattle.broker.specs.Names.{
+  hosts,
+  numbers,
+  isStarted,
+  isMigrating,
+  isEnded,
+  endpoint,
+  isOpenRequest,
+  asksFor,
+  isClosed,
+  isClosing,
+  isClear,
+  isUnheeded,
+}
 use Rattle.broker.specs.Ranks.{everyRank}
 use Rattle.broker.specs.Record.{kindOf, firstRank, secondRank, namedHost}
 use Rattle.broker.specs.State.{State, status, request, connection, backlog, drawnOn, messages}
 use Rattle.broker.specs.declared.answer.Refusal.{Refusal}
-use Rattle.broker.specs.declared.answer.Refusal.the-variants.{RankRange, HostRange, SameRank, NotStarted, AlreadyStarted, HasEnded, IsMigrating, NotMigrating, Connected, RequestOpen, NoRequest, NotConnected, PeerMigrating, NoNotice, SameHost, BacklogLeft, NoBacklog, NothingToDrain, NothingUnread, UnreadLeft, Full, NumbersSpent}
+use Rattle.broker.specs.declared.answer.Refusal.the-variants.{
+  RankRange,
+  HostRange,
+  SameRank,
+  NotStarted,
+  AlreadyStarted,
+  HasEnded,
+  IsMigrating,
+  NotMigrating,
+  Connected,
+  RequestOpen,
+  NoRequest,
+  NotConnected,
+  PeerMigrating,
+  NoNotice,
+  SameHost,
+  BacklogLeft,
+  NoBacklog,
+  NothingToDrain,
+  NothingUnread,
+  UnreadLeft,
+  Full,
+  NumbersSpent,
+}
 use Rattle.broker.specs.declared.record.Record.{Record}
 
 -- the record is of one of the listed kinds

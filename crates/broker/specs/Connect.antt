@@ -1,8 +1,6 @@
 -- Call, route and part: what each does to the state and answers. Paper 01, "The step log", kinds 02, 03 and 0A.
 -- Assumes nothing.
 use mathlib.Core.Bool.{cond}
-use mathlib.Core.List.{List}
-use Prim.Native.Nat.{ℕ}
 use lib.ListN.{set}
 use Rattle.base.specs.Lists.{tally}
 use Rattle.transit.specs.Message.{picks}
@@ -28,7 +26,6 @@ use Rattle.broker.specs.State.{
 }
 use Rattle.broker.specs.declared.link.Connection.{Connection}
 use Rattle.broker.specs.declared.link.Connection.the-variants.{Closed, Open}
-use Rattle.broker.specs.declared.link.Link.{Link}
 use Rattle.broker.specs.declared.process.Request.the-variants.{Absent, Posted}
 use Rattle.broker.specs.declared.process.Vmid.{Vmid}
 

@@ -1,6 +1,6 @@
 -- The kinds of the step log, "Kinds are hexadecimal", and how long the body of each is. Paper 01, "The step log".
 -- Assumes nothing.
-use mathlib.Core.Bool.{Bool, true, false, _&&_, _||_}
+use mathlib.Core.Bool.{Bool, false, _&&_, _||_}
 use mathlib.Core.List.{List, [], _∷_}
 use Prim.Native.Nat.{ℕ}
 use lib.Dec.{eqb, leb}

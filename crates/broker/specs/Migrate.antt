@@ -27,19 +27,16 @@ use Rattle.broker.specs.State.{
   withLinks,
   withUnread,
   await,
-  awaitsOf,
 }
 use Rattle.broker.specs.Connect.{onChannel}
 use Rattle.broker.specs.Done.{Done, done}
 use Rattle.broker.specs.Names.{endpoint, isClear}
 use Rattle.broker.specs.Ranks.{countRanks, eachRank}
-use Rattle.broker.specs.declared.link.Backlog.{Backlog}
 use Rattle.broker.specs.declared.link.Backlog.the-variants.{Clear, Unheeded, Marked}
 use Rattle.broker.specs.declared.link.Connection.{Connection}
 use Rattle.broker.specs.declared.link.Connection.the-variants.{Closed, Open, Closing}
 use Rattle.broker.specs.declared.link.Link.{Link}
 use Rattle.broker.specs.declared.process.Status.the-variants.{Running, Migrating}
-use Rattle.broker.specs.declared.process.Vmid.{Vmid}
 
 -- "Messages to r at place 2 go to 0, at 3 to 1."
 abbrev pub leftBehind : Rank → Unread → Unread

@@ -1,6 +1,6 @@
 -- Vmids, standings, requests, connections and backlogs: the tests on them that paper 01 words. Paper 01, "Names and places".
 -- Assumes nothing.
-use mathlib.Core.Bool.{Bool, true, false, not, _&&_, _||_}
+use mathlib.Core.Bool.{Bool, true, false, _&&_, _||_}
 use mathlib.Core.List.{List, [], _∷_}
 use Prim.Native.Nat.{ℕ}
 use lib.Dec.{eqb}

@@ -1,17 +1,32 @@
 -- Soundness: named clauses for each sentence of paper 01, "Sound states", in three groups, and their conjunction.
 -- Assumes nothing.
-use mathlib.Core.Bool.{Bool, true, false, not, cond, Bool·beq, _&&_, _||_}
+use mathlib.Core.Bool.{Bool, true, not, cond, Bool·beq, _&&_, _||_}
 use mathlib.Core.List.{List, [], _∷_, map}
-use Prim.Native.Nat.{ℕ}
 use lib.Dec.{eqb, leb, ltb}
 use lib.ListN.{length}
 use Rattle.base.specs.Lists.{select, every, neverFalls}
 use Rattle.transit.specs.Message.{between, at, placeNumber, sameRank, isRank, ranks, cells}
 use Rattle.transit.specs.Unread.{limit}
-use Rattle.transit.specs.declared.Message.{Message}
 use Rattle.transit.specs.declared.Place.the-variants.{SourceList, SourceChannel, Channel}
 use Rattle.transit.specs.declared.Rank.{Rank}
-use Rattle.broker.specs.Names.{hosts, numbers, unknown, sameVmid, isStarted, isRunning, isMigrating, isLive, processesOf, vmidsOf, asksFor, isClosed, isOpen, isClosing, isClear, isUnheeded}
+use Rattle.broker.specs.Names.{
+  hosts,
+  numbers,
+  unknown,
+  sameVmid,
+  isStarted,
+  isRunning,
+  isMigrating,
+  isLive,
+  processesOf,
+  vmidsOf,
+  asksFor,
+  isClosed,
+  isOpen,
+  isClosing,
+  isClear,
+  isUnheeded,
+}
 use Rattle.broker.specs.Ranks.{everyRank, everyPair}
 use Rattle.base.specs.Below.{allBelow}
 use Rattle.broker.specs.State.{State, status, request, location, connection, backlog, drawnOn, messages}

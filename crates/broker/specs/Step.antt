@@ -1,12 +1,10 @@
 -- A step: the record at a position of a log, its checks, what it does, and where the next one stands. Paper 01, "The step log" and
 -- "Where each step is checked". Assumes nothing.
-use mathlib.Core.Bool.{Bool, true, false, cond}
+use mathlib.Core.Bool.{cond}
 use mathlib.Core.List.{List}
 use mathlib.Core.Option.{Option, none, some}
 use mathlib.Core.Path.{_≡_}
 use Prim.Native.Nat.{ℕ, _<_}
-use Rattle.base.specs.Lists.{tally}
-use Rattle.transit.specs.Message.{between}
 use Rattle.transit.specs.declared.Rank.{Rank}
 use Rattle.broker.specs.Checks.{refusal}
 use Rattle.broker.specs.Connect.{call, route, part}

@@ -1,8 +1,8 @@
 // A process as the broker knows it: its two levels of name, whether it runs, and its connection request.
 // Paper 01, "Names and places".
 ghost use mathlib.Core.Path.{_≡_};
-ghost use Rattle.transit.specs.Message.{sameRank};
-ghost use Rattle.broker.specs.Names.{sameVmid, isStarted, isRunning, isMigrating, isEnded, isLive, endpoint, unknown, isOpenRequest, asksFor, postedTo};
+ghost use Rattle.broker.specs.Names.{sameVmid, isStarted, isRunning, isMigrating, isEnded, isLive, endpoint};
+ghost use Rattle.broker.specs.Names.{unknown, isOpenRequest, asksFor, postedTo};
 use transit::Rank;
 
 // The lower level of name: a host, and a number drawn on it. `Vmid(0, 0)` is unknown.

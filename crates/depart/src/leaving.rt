@@ -1,6 +1,5 @@
 // What a move leaves behind: its lines, and the messages of the source process. Paper 01, "The step log", kind 06.
 ghost use mathlib.Core.List.{List};
-ghost use mathlib.Core.Path.{_≡_};
 ghost use Prim.Native.Nat.{ℕ, _<_};
 ghost use Rattle.transit.specs.Mail.{Mail};
 ghost use Rattle.transit.specs.Message.{ranks};

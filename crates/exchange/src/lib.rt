@@ -6,7 +6,7 @@ ghost use lib.ListN.{length};
 ghost use Prim.Native.Nat.{ℕ, _<_};
 ghost use Rattle.base.specs.Lists.{tally};
 ghost use Rattle.transit.specs.Mail.{Mail, messagesIn};
-ghost use Rattle.transit.specs.Message.{between, to, ranks};
+ghost use Rattle.transit.specs.Message.{between, ranks};
 ghost use Rattle.transit.specs.Unread.{limit};
 ghost use Rattle.broker.specs.Messages.{placeOver, send, take};
 ghost use Rattle.broker.specs.declared.record.Record.{Record};

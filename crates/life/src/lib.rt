@@ -1,9 +1,8 @@
 // Start and end: the checks of each in the paper's order, and what each does where none applies.
 // Paper 01, "The step log", kinds 01 and 0B.
-ghost use mathlib.Core.List.{List};
 ghost use mathlib.Core.Path.{_≡_};
 ghost use lib.Dec.{leb};
-ghost use Prim.Native.Nat.{ℕ, _<_};
+ghost use Prim.Native.Nat.{_<_};
 ghost use Rattle.transit.specs.Mail.{Mail};
 ghost use Rattle.transit.specs.Unread.{Unread};
 ghost use Rattle.broker.specs.Life.{start, end};

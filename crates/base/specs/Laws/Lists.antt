@@ -1,6 +1,6 @@
 -- Laws of lists under a Boolean test: of the elements that pass, of the list without the first of them, and of the list with some changed.
 -- Assumes nothing.
-use mathlib.Core.Path.{_≡_, refl, _∙_}
+use mathlib.Core.Path.{_≡_, refl}
 use mathlib.Core.Bool.{Bool, true, false, _&&_, not, and-assoc}
 use mathlib.Core.List.{List, [], _∷_, _++_, map, head-eq-of-cons-eq}
 use Prim.Native.Nat.{ℕ, zero, suc, _+_, _<_, _≤_}

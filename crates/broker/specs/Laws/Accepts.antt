@@ -6,7 +6,22 @@ use Prim.Native.Nat.{ℕ}
 use borrow.Author.Tests.{lt-ltb, lt-leb}
 use Rattle.transit.specs.declared.Rank.{Rank}
 use Rattle.broker.specs.Checks.{refusal}
-use Rattle.broker.specs.Laws.Accepted.{StartFits, CallFits, RouteFits, SendFits, TakeFits, MoveFits, LandFits, PartFits, EndFits, running-not-ended, running-not-migrating, migrating-not-ended, open-not-closed, open-not-closing}
+use Rattle.broker.specs.Laws.Accepted.{
+  StartFits,
+  CallFits,
+  RouteFits,
+  SendFits,
+  TakeFits,
+  MoveFits,
+  LandFits,
+  PartFits,
+  EndFits,
+  running-not-ended,
+  running-not-migrating,
+  migrating-not-ended,
+  open-not-closed,
+  open-not-closing,
+}
 use Rattle.broker.specs.Laws.Opened.{openedChecks}
 use Rattle.broker.specs.Laws.Ranks.{everyRank-of}
 use Rattle.broker.specs.Names.{isClosed, isClear}

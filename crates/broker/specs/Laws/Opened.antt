@@ -20,7 +20,10 @@ use Rattle.broker.specs.declared.record.Record.{Record}
 
 -- the refusal of a record; where this is opened, every row of the table of checks is open
 unfoldable pub openedChecks : State → Record → Option Refusal
-unfolding Checks.refusal Checks.checks Checks.rankRange Checks.hostRange Checks.rankTwice Checks.notStarted Checks.alreadyStarted Checks.hasEnded Checks.firstMigrating Checks.notMigrating Checks.connected Checks.requestOpen Checks.noRequest Checks.notConnected Checks.peerMigrating Checks.noNotice Checks.sameHost Checks.backlogLeft Checks.noBacklog Checks.nothingToDrain Checks.nothingUnread Checks.unreadLeft Checks.full Checks.numbersSpent
+unfolding Checks.refusal Checks.checks Checks.rankRange Checks.hostRange Checks.rankTwice Checks.notStarted
+    Checks.alreadyStarted Checks.hasEnded Checks.firstMigrating Checks.notMigrating Checks.connected Checks.requestOpen
+    Checks.noRequest Checks.notConnected Checks.peerMigrating Checks.noNotice Checks.sameHost Checks.backlogLeft
+    Checks.noBacklog Checks.nothingToDrain Checks.nothingUnread Checks.unreadLeft Checks.full Checks.numbersSpent
 openedChecks s r = Checks.refusal s r
 
 -- the clauses on names, on pairs of ranks and on messages
@@ -29,11 +32,13 @@ unfolding Sound.namesSound Sound.numbersInRange Sound.vmidsDrawn Sound.callsDraw
 openedNames s = Sound.namesSound s
 
 unfoldable pub openedPairs : State → Bool
-unfolding Sound.pairsSound Sound.nothingWithSelf Sound.linesBelong Sound.plainBothSides Sound.noticeFacesNone Sound.awaitsBelong Sound.unheededIsNotice Sound.callsFit everyRank everyPair
+unfolding Sound.pairsSound Sound.nothingWithSelf Sound.linesBelong Sound.plainBothSides Sound.noticeFacesNone
+    Sound.awaitsBelong Sound.unheededIsNotice Sound.callsFit everyRank everyPair
 openedPairs s = Sound.pairsSound s
 
 unfoldable pub openedMessages : State → Bool
-unfolding Sound.messagesSound Sound.fewUnread Sound.messagesNamed Sound.endsFit Sound.unheededPlaces Sound.placesFit Sound.placesRise everyPair
+unfolding Sound.messagesSound Sound.fewUnread Sound.messagesNamed Sound.endsFit Sound.unheededPlaces Sound.placesFit
+    Sound.placesRise everyPair
 openedMessages s = Sound.messagesSound s
 
 -- whether a state is sound; where this is opened, every clause of soundness is open
@@ -43,5 +48,8 @@ openedSound s = Sound.sound s
 
 -- a step of a sound state; where this is opened, all that it computes with is open
 unfoldable pub opened : Rank → State → List ℕ → ℕ → Outcome
-unfolding stepSound settle apply decode openedChecks Unread.appended Unread.relabelAll Unread.relabelFirst Unread.removed Life.announced Life.start Life.end Connect.call Connect.route Connect.part Messages.send Messages.take Messages.look Migrate.leaveAll Migrate.move Migrate.heed Migrate.drain Migrate.land everyRank everyPair countRanks eachRank
+unfolding stepSound settle apply decode openedChecks Unread.appended Unread.relabelAll Unread.relabelFirst
+    Unread.removed Life.announced Life.start Life.end Connect.call Connect.route Connect.part Messages.send
+    Messages.take Messages.look Migrate.leaveAll Migrate.move Migrate.heed Migrate.drain Migrate.land everyRank
+    everyPair countRanks eachRank
 opened named s log at = stepSound named s log at

@@ -1,5 +1,5 @@
 -- `connect::route` meets its contract: each way on is its case. Assumes nothing.
-use mathlib.Core.Path.{_≡_, sym, _∙_}
+use mathlib.Core.Path.{sym, _∙_}
 use borrow.Author.Needs.{needs}
 use Rattle.transit.specs.Unread.{Unread}
 use Rattle.broker.specs.State.{withUnread}

@@ -1,6 +1,6 @@
 -- `connect::withdraw` meets its contract: the call closes where it asks for the rank. Assumes nothing.
 use mathlib.Core.Bool.{true, false}
-use mathlib.Core.Path.{_≡_, sym, _∙_}
+use mathlib.Core.Path.{_≡_}
 use borrow.Author.Needs.{needs}
 use Rattle.broker.specs.Names.{asksFor}
 use Rattle.broker.specs.State.{request}

@@ -4,7 +4,6 @@ use borrow.Author.Needs.{needs}
 use Rattle.broker.specs.Names.{endpoint}
 use Rattle.broker.specs.State.{withStatus}
 use Rattle.broker.specs.declared.process.Status.the-variants.{Running}
-use Rattle.broker.specs.declared.process.Status.{Status}
 use Rattle.broker.specs.declared.process.Vmid.{Vmid}
 use Rattle.roster.specs.Roster.{ranksOf}
 use Rattle.migrate.specs.Laws.Done.{land-done}

@@ -9,7 +9,7 @@ use Rattle.broker.specs.Kind
 use Rattle.broker.specs.Names.{vmid, isMigrating}
 use Rattle.transit.specs.Message.{rank}
 use Rattle.broker.specs.Ranks.{everyRank}
-use Rattle.broker.specs.State.{idle, fresh, status}
+use Rattle.broker.specs.State.{idle, fresh}
 use Rattle.broker.specs.declared.process.Status.the-variants.{Running, Migrating}
 use Rattle.broker.specs.declared.record.Record.the-variants.{Start, Call, Route, Send, Take, Move, Drain, Land, Part}
 use Rattle.ordering.specs.Worked.Account.{Account, computed, from-fresh}

@@ -15,7 +15,7 @@ use Rattle.transit.specs.declared.Selection.the-variants.{Between}
 use Rattle.broker.specs.Checks.{is}
 use Rattle.broker.specs.Kind
 use Rattle.broker.specs.Record.{firstRank, secondRank}
-use Rattle.broker.specs.State.{idle, fresh, status, messages}
+use Rattle.broker.specs.State.{idle, fresh, messages}
 use Rattle.broker.specs.declared.process.Process.{Process}
 use Rattle.broker.specs.declared.process.Request.the-variants.{Absent}
 use Rattle.broker.specs.declared.process.Status.{Status}
