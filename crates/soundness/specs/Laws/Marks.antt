@@ -10,10 +10,9 @@ use borrow.Author.Tests.{eqb-true, le-leb, lt-leb}
 use lib.Dec.{eqb, leb, leb·suc-suc}
 use lib.ListN.{length, getD, set, replicate, length-replicate, getD-replicate}
 use lib.Seq.{set-getD}
-use Rattle.base.specs.Laws.Stores.{long-set}
+use Rattle.base.specs.Laws.Stores.{long-set, getD-set}
 use Rattle.base.specs.Laws.Tests.{by-test, same-truth}
 use Rattle.base.specs.Lists.{every, neverFalls}
-use Rattle.broker.specs.Laws.State.{getD-set}
 use Rattle.soundness.specs.Laws.Rising.{rises-tells, rises-of}
 use Rattle.soundness.specs.Messages.{rises}
 
