@@ -14,9 +14,8 @@ returns c =
     let word = two .before .before .before .before in
     let args = word .before .before .before .args in
     as-text
-    (pair-parts (args .a) (args .b) (args .first ∷ args .second ∷ args .third ∷ args .fourth ∷ []))
     (word .put-four-bytes .ensures then two .put-two-numbers .ensures then four .put-four-numbers .ensures then last .put-byte .ensures)
+    (pair-parts (args .a) (args .b) (args .first ∷ args .second ∷ args .third ∷ args .fourth ∷ []))
 
 pub pair-line-spec : {M : Type 1} → statement M
-pair-line-spec =
-    tie.close (tie.spec (search needs) (search needs) (search needs) (search needs) (search needs) returns)
+pair-line-spec = tie.close (tie.spec (search needs) (search needs) (search needs) (search needs) (search needs) returns)

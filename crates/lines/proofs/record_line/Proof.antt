@@ -1,6 +1,5 @@
 -- `lines::record_line` meets its contract: four puts in a row, whose texts are the parts of the line. Assumes nothing.
 use borrow.Author.Needs.{needs}
-use Rattle.broker.specs.Answer.{listed}
 use Rattle.page.specs.Laws.Put.{_then_, as-text}
 use Rattle.lines.specs.Laws.Parts.{record-parts}
 use Rattle.lines.proofs.record_line.Statement.{statement}
@@ -14,14 +13,11 @@ returns c =
     let position = kind .before .before .before .before in
     let known = position .before .before in
     let args = known .before .before .before .args in
-    let number = known .before .number in
-    let values = known .values in
+    let number = known .before .number .ensures in
     as-text
-    (record-parts (args .position) (args .kind) (args .answer) (number .result) (listed (values .result)) (number .ensures)
-    (values .ensures))
     (position .put-decimal .ensures then kind .put-hex .ensures then four .put-four-numbers .ensures then last .put-byte .ensures)
+    (record-parts (args .position) (args .kind) (args .answer) number (known .values .ensures))
 
 pub record-line-spec : {M : Type 1} → statement M
-record-line-spec =
-    tie.close (tie.spec (search needs) (search needs) (search needs) (search needs) (search needs) (search needs)
+record-line-spec = tie.close (tie.spec (search needs) (search needs) (search needs) (search needs) (search needs) (search needs)
     (search needs) (search needs) (search needs) (search needs) (search needs) returns)

@@ -1,7 +1,6 @@
 -- `lines::refused_line` meets its contract: the puts of a record's line, of a refusal. Assumes nothing.
 use mathlib.Core.Path.{refl}
 use borrow.Author.Needs.{needs}
-use Rattle.broker.specs.Answer.{values}
 use Rattle.broker.specs.declared.answer.Answer.the-variants.{Refused}
 use Rattle.page.specs.Laws.Put.{_then_, as-text}
 use Rattle.lines.specs.Laws.Parts.{record-parts}
@@ -16,12 +15,10 @@ returns c =
     let position = kind .before .before .before .before in
     let known = position .before .before in
     let args = known .before .before .args in
-    let number = known .number in
     as-text
-    (record-parts (args .position) (args .kind) (Refused (args .why)) (number .result) (values (Refused (args .why))) (number .ensures) refl)
     (position .put-decimal .ensures then kind .put-hex .ensures then four .put-four-numbers .ensures then last .put-byte .ensures)
+    (record-parts (args .position) (args .kind) (Refused (args .why)) (known .number .ensures) refl)
 
 pub refused-line-spec : {M : Type 1} → statement M
-refused-line-spec =
-    tie.close (tie.spec (search needs) (search needs) (search needs) (search needs) (search needs) (search needs)
+refused-line-spec = tie.close (tie.spec (search needs) (search needs) (search needs) (search needs) (search needs) (search needs)
     (search needs) returns)

@@ -14,24 +14,17 @@ use Rattle.lines.specs.Lines.{recordLine, pairWord, pairLine, countsAtPl
 
 -- A record's line is its position, its kind, the numbers of its answer and the line's end.
 pub record-parts :
-    (position kind : ℕ) (a : Answer) (n : ℕ) (ns : List ℕ) →
-    n ≡ number a →
-    ns ≡ values a →
+    (position kind : ℕ) (a : Answer) {n : ℕ} {ns : List ℕ} → n ≡ number a → ns ≡ values a →
     decimal position ++ (space ∷ hex kind) ++ numbers (n ∷ ns) ++ (newline ∷ []) ≡ recordLine position kind a
 unfolding recordLine
-record-parts position kind a n ns e f =
-    ap
-    (λ (l : List ℕ). decimal position ++ (space ∷ hex kind) ++ numbers l ++ (newline ∷ []))
-    (ap (λ (m : ℕ). m ∷ ns) e ∙ ap (λ (l : List ℕ). number a ∷ l) f)
+record-parts position kind a e f = rw (e, f)
 
 -- A pair's line is the word, the two ranks, the counts and the line's end.
-pub pair-parts :
-    (a b : ℕ) (ns : List ℕ) → pairWord ++ numbers (a ∷ b ∷ []) ++ numbers ns ++ (newline ∷ []) ≡ pairLine a b ns
+pub pair-parts : (a b : ℕ) (ns : List ℕ) → pairWord ++ numbers (a ∷ b ∷ []) ++ numbers ns ++ (newline ∷ []) ≡ pairLine a b ns
 unfolding pairLine
 pair-parts a b ns =
     let ranks = a ∷ b ∷ [] in
-    ap
-    (λ (t : List ℕ). t ++ (newline ∷ []))
+    ap (λ (t : List ℕ). t ++ (newline ∷ []))
     (append-assoc pairWord (numbers ranks) (numbers ns) ∙ ap (λ (t : List ℕ). pairWord ++ t) (numbers-append ranks ns))
 
 module _ (l : List Message) (a b : ℕ) where
@@ -41,9 +34,5 @@ module _ (l : List Message) (a b : ℕ) where
 
   -- A pair with something unread has its line.
   pub one-line :
-      (tally (between (rank a) (rank b)) l ≡ 0 → ⊥) →
-      (ns : List ℕ) →
-      ns ≡ countsAtPlaces l a b →
-      pairLine a b ns ≡ linesOfPair l a b
-  one-line e ns same =
-      rw (ne-eqb (tally (between (rank a) (rank b)) l) 0 e) (ap (pairLine a b) same)
+      (tally (between (rank a) (rank b)) l ≡ 0 → ⊥) → {ns : List ℕ} → ns ≡ countsAtPlaces l a b → pairLine a b ns ≡ linesOfPair l a b
+  one-line e same = rw (ne-eqb (tally (between (rank a) (rank b)) l) 0 e, same)

@@ -4,7 +4,7 @@ use mathlib.Core.Path.{_≡_, refl, _∙_}
 use Prim.Native.Nat.{_+_, _≤_}
 use native.Mathlib.Omega.{arith}
 use borrow.Author.Needs.{needs}
-use lib.ListN.{length, set}
+use lib.ListN.{length}
 use lib.Seq.{sets, length-sets}
 use Rattle.page.specs.Laws.Digits.{two-first, decimal-put}
 use Rattle.page.specs.Laws.Text.{decimal-one, decimal-pair, length-of-word, length-two}
@@ -14,22 +14,11 @@ use Rattle.page.proofs.put_decimal.Tie as tie
 
 abbrev Inv-loop : tie.InvT-loop
 Inv-loop page₀ used n end at₀ rest₀ page at rest =
-    (sets page used (decimal rest) ≡ sets page₀ used (decimal n)) ×
-    (at ≡ used + length (decimal rest)) ×
-    (length (decimal rest) ≤ 20) ×
-    (length page ≡ length page₀)
+    (sets page used (decimal rest) ≡ sets page₀ used (decimal n)) × (at ≡ used + length (decimal rest)) ×
+    (length (decimal rest) ≤ 20) × (length page ≡ length page₀)
 
 abbrev μ-loop : tie.MeasureT-loop
 μ-loop page₀ used n end at₀ rest₀ page at rest = rest
-
-add-end : tie.Need-add-end Inv-loop μ-loop
-add-end c = omega (arith, length-of-word (c .before .before .args .n) (omega arith))
-
-loop-holds : tie.Need-loop-holds Inv-loop μ-loop
-loop-holds c = (refl, omega arith, length-of-word (c .before .before .args .n) (omega arith), refl)
-
-sub-at : tie.Need-sub-at Inv-loop μ-loop
-sub-at c = omega (arith, length-two (c .before .loop .rest) (omega arith))
 
 loop-again : tie.Need-loop-again Inv-loop μ-loop
 loop-again c =
@@ -48,25 +37,17 @@ returns c =
     let head = c .before .before .before .before .before .before in
     let args = head .before .before .before .args in
     let pair = decimal-pair (head .loop .rest) (omega arith) (omega arith) in
-    let end = args .used + head .before .width .result in
-    decimal-put (args .page .now) (args .used) (args .n) (put .last .0) end
-    (omega arith)
-    (put .ensures ∙ (rw pair at (head .loop .inv .0)))
-    (omega arith)
+    decimal-put (args .n) (omega arith) (put .ensures ∙ rw pair at (head .loop .inv .0)) (omega arith)
 
 returns-2 : tie.Need-returns-2 Inv-loop μ-loop
 returns-2 c =
     let head = c .before .before in
     let args = head .before .before .before .args in
-    let one = decimal-one (head .loop .rest) (omega arith) in
-    let end = args .used + head .before .width .result in
-    decimal-put (args .page .now) (args .used) (args .n) (set (head .loop .page) (args .used) (48 + head .loop .rest)) end
-    (omega arith)
-    (rw one at (head .loop .inv .0))
-    (omega arith)
+    decimal-put (args .n) (omega arith) (rw (decimal-one (head .loop .rest) (omega arith)) at (head .loop .inv .0)) (omega arith)
 
 pub put-decimal-spec : {M : Type 1} → statement M
-put-decimal-spec =
-    tie.close (tie.spec Inv-loop μ-loop (search needs) add-end loop-holds sub-at (search needs) (search needs)
-    loop-again (search needs) (search needs) (search needs) (search needs) (search needs) returns (λ c. search needs)
-    returns-2)
+put-decimal-spec = tie.close (tie.spec Inv-loop μ-loop (search needs)
+    (λ c. omega (arith, length-of-word (c .before .before .args .n) (omega arith)))
+    (λ c. (refl, omega arith, length-of-word (c .before .before .args .n) (omega arith), refl))
+    (λ c. omega (arith, length-two (c .before .loop .rest) (omega arith))) (search needs) (search needs) loop-again (search needs)
+    (search needs) (search needs) (search needs) (search needs) returns (λ c. search needs) returns-2)

@@ -13,5 +13,4 @@ returns c =
     first .put-byte .ensures then second .put-byte2 .ensures then third .put-byte3 .ensures then fourth .put-byte4 .ensures
 
 pub put-four-bytes-spec : {M : Type 1} → statement M
-put-four-bytes-spec =
-    tie.close (tie.spec (search needs) (search needs) (search needs) (search needs) (search needs) returns)
+put-four-bytes-spec = tie.close (tie.spec (search needs) (search needs) (search needs) (search needs) (search needs) returns)

@@ -14,6 +14,4 @@ returns c =
     first .put-byte .ensures then high then low
 
 pub put-hex-spec : {M : Type 1} → statement M
-put-hex-spec =
-    tie.close (tie.spec (search needs) (search needs) (search needs) (search needs) (search needs) (search needs)
-    returns)
+put-hex-spec = tie.close (tie.spec (search needs) (search needs) (search needs) (search needs) (search needs) (search needs) returns)

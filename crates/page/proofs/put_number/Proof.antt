@@ -12,7 +12,7 @@ returns c =
     let tested = second .before .before in
     let first = tested .before .before .before in
     let n = first .before .before .before .args .n in
-    rw (decimal-one n (tested .if1 .taken)) (at-most (omega arith) (first .put-byte .ensures then second .put-byte2 .ensures))
+    rw (decimal-one n (tested .if1 .taken)) (at-most (first .put-byte .ensures then second .put-byte2 .ensures) (omega arith))
 
 returns-2 : tie.Need-returns-2
 returns-2 c =
@@ -21,6 +21,5 @@ returns-2 c =
     first .put-byte .ensures then second .put-decimal .ensures
 
 pub put-number-spec : {M : Type 1} → statement M
-put-number-spec =
-    tie.close (tie.spec (search needs) (search needs) (search needs) (search needs) (search needs) returns
-    (search needs) (search needs) returns-2)
+put-number-spec = tie.close (tie.spec (search needs) (search needs) (search needs) (search needs) (search needs) returns (search needs)
+    (search needs) returns-2)

@@ -6,13 +6,6 @@ use lib.ListN.{length-set}
 use Rattle.page.proofs.put_two_digits.Statement.{statement}
 use Rattle.page.proofs.put_two_digits.Tie as tie
 
-slice-write-page-2 : tie.Need-slice-write-page-2
-slice-write-page-2 c = rw length-set (omega arith)
-
-returns : tie.Need-returns
-returns c = rw add-one
-
 pub put-two-digits-spec : {M : Type 1} → statement M
-put-two-digits-spec =
-    tie.close (tie.spec (search needs) (search needs) (search needs) (search needs) (search needs) (search needs)
-    slice-write-page-2 (search needs) returns)
+put-two-digits-spec = tie.close (tie.spec (search needs) (search needs) (search needs) (search needs) (search needs) (search needs)
+    (λ c. rw length-set (omega arith)) (search needs) (λ c. rw add-one))

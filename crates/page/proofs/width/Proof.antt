@@ -3,6 +3,7 @@
 use mathlib.Core.Path.{_≡_}
 use Prim.Native.Nat.{_+_, _/_, _≤_}
 use native.Mathlib.Omega.{arith}
+use borrow.Author.Needs.{needs}
 use lib.ListN.{length}
 use Rattle.page.specs.Text.{decimal}
 use Rattle.page.specs.Laws.Text.{length-one, length-more, length-two, length-four, length-of-word}
@@ -15,42 +16,21 @@ Inv-loop n k₀ rest₀ k rest = (k + length (decimal rest) ≡ length (decimal 
 abbrev μ-loop : tie.MeasureT-loop
 μ-loop n k₀ rest₀ k rest = rest
 
-loop-holds : tie.Need-loop-holds Inv-loop μ-loop
-loop-holds c = (omega arith, length-of-word (c .args .n) (omega arith))
-
-add-k : tie.Need-add-k Inv-loop μ-loop
-add-k c = omega arith
-
-loop-less : tie.Need-loop-less Inv-loop μ-loop
-loop-less c = omega arith
-
 loop-again : tie.Need-loop-again Inv-loop μ-loop
 loop-again c = omega (arith, length-four (c .before .loop .rest) (omega arith))
 
-add-result : tie.Need-add-result Inv-loop μ-loop
-add-result c = omega arith
-
 returns : tie.Need-returns Inv-loop μ-loop
 returns c = omega (arith, length-one (c .before .before .loop .rest) (omega arith))
-
-add-result-2 : tie.Need-add-result-2 Inv-loop μ-loop
-add-result-2 c = omega arith
 
 returns-2 : tie.Need-returns-2 Inv-loop μ-loop
 returns-2 c =
     let rest = c .before .before .before .loop .rest in
     omega (arith, length-more rest (omega arith), length-one (rest / 10) (omega arith))
 
-add-result-3 : tie.Need-add-result-3 Inv-loop μ-loop
-add-result-3 c = omega arith
-
 returns-3 : tie.Need-returns-3 Inv-loop μ-loop
 returns-3 c =
     let rest = c .before .before .before .before .loop .rest in
     omega (arith, length-two rest (omega arith), length-one (rest / 100) (omega arith))
-
-add-result-4 : tie.Need-add-result-4 Inv-loop μ-loop
-add-result-4 c = omega arith
 
 returns-4 : tie.Need-returns-4 Inv-loop μ-loop
 returns-4 c =
@@ -59,6 +39,5 @@ returns-4 c =
     omega (arith, length-two rest (omega arith), length-more last (omega arith), length-one (last / 10) (omega arith))
 
 pub width-spec : {M : Type 1} → statement M
-width-spec =
-    tie.close (tie.spec Inv-loop μ-loop loop-holds add-k loop-less loop-again add-result returns add-result-2 returns-2
-    add-result-3 returns-3 add-result-4 returns-4)
+width-spec = tie.close (tie.spec Inv-loop μ-loop (λ c. (omega arith, length-of-word (c .args .n) (omega arith))) (search needs)
+    (search needs) loop-again (search needs) returns (search needs) returns-2 (search needs) returns-3 (search needs) returns-4)

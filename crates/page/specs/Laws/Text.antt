@@ -1,6 +1,5 @@
 -- Laws of numbers as text: the last digits of a number, and how many digits there are. Assumes nothing.
-use mathlib.Core.Path.{_≡_, refl, ap, _∙_}
-use mathlib.Core.Bool.{Bool, true, false}
+use mathlib.Core.Path.{_≡_, refl}
 use mathlib.Core.List.{List, [], _∷_, _++_, append-assoc, append-nil}
 use Prim.Native.Nat.{ℕ, zero, suc, _+_, _/_, _%_, _^_, _≤_, _<_}
 use native.Mathlib.Nat.{div-div-eq-div-mul}
@@ -8,15 +7,12 @@ use native.Mathlib.Omega.{arith}
 use borrow.Author.Tests.{lt-ltb, le-ltb, ltb-true, ltb-false}
 use lib.Dec.{ltb}
 use lib.ListN.{length, length-append}
+use Rattle.base.specs.Laws.Tests.{by-test}
 use Rattle.page.specs.Text.{space, decimalWithin, decimal, twoDigits, numbers}
 
 -- What holds of one digit and of more holds.
 by-digits {ℓ} : {P : Type ℓ} (n : ℕ) → (n < 10 → P) → (10 ≤ n → P) → P
-by-digits {P = P} n one more = by (ltb n 10) (λ e. one (ltb-true n 10 e)) (λ e. more (ltb-false n 10 e))
-  where
-    by : (b : Bool) → (b ≡ true → P) → (b ≡ false → P) → P
-    by true p q = p refl
-    by false p q = q refl
+by-digits n one more = by-test (ltb n 10) (λ t. one (ltb-true n 10 t)) (λ t. more (ltb-false n 10 t))
 
 -- A bound above the number is no part of its text.
 bound-is-free : (j k n : ℕ) → n < j → n < k → decimalWithin j n ≡ decimalWithin k n
@@ -76,7 +72,4 @@ numbers-two a b = rw append-nil
 
 pub numbers-append : (xs ys : List ℕ) → numbers xs ++ numbers ys ≡ numbers (xs ++ ys)
 numbers-append [] ys = refl
-numbers-append (x ∷ xs) ys =
-    ap
-    (λ (t : List ℕ). space ∷ t)
-    (append-assoc (decimal x) (numbers xs) (numbers ys) ∙ ap (λ (t : List ℕ). decimal x ++ t) (numbers-append xs ys))
+numbers-append (x ∷ xs) ys = rw (append-assoc, numbers-append xs ys)

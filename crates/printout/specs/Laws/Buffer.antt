@@ -34,25 +34,17 @@ module _ (before : List ℕ) (from held : ℕ) (order : from ≤ held) (room : h
       rw (here, place) there
 
   -- One byte more is moved.
-  pub one-moved :
-      (kept : ℕ) →
-      kept < held - from →
-      let b = moving before from held kept in
+  pub one-moved : (kept : ℕ) → kept < held - from → let b = moving before from held kept in
       set b kept (getD b (from + kept) 0) ≡ moving before from held (suc kept)
-  one-moved kept h =
-      let pasted = paste-suc before 0 rest kept 0 (omega arith) (omega (arith, long)) in
-      rw (byte-kept kept h) (simp zero-add at pasted)
-
-  length-moving : (kept : ℕ) → kept ≤ held - from → length (moving before from held kept) ≡ length before
-  length-moving kept h = simp zero-add at (length-paste before 0 rest kept (omega arith) (omega (arith, long)))
+  one-moved kept h = rw (byte-kept kept h) (simp zero-add at (paste-suc before 0 rest kept 0 (omega arith) (omega (arith, long))))
 
   -- All are moved.
   pub all-moved : Kept before from held (moving before from held (held - from)) (held - from)
   all-moved =
+      let all = held - from in
       record {
         counts = refl;
         holds =
-            take-at (take (held - from) rest) (drop (held - from) before) (held - from) (front (held - from) (omega arith)) ∙
-            take-all (held - from) rest (omega (arith, long));
-        room = length-moving (held - from) (omega arith);
+            take-at (take all rest) (drop all before) all (front all (omega arith)) ∙ take-all all rest (omega (arith, long));
+        room = simp zero-add at (length-paste before 0 rest all (omega arith) (omega (arith, long)));
       }

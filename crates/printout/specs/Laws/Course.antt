@@ -2,9 +2,8 @@
 -- Assumes nothing.
 use mathlib.Core.Bool.{Bool, true, false}
 use mathlib.Core.List.{List, _++_, append-assoc, append-nil}
-use mathlib.Core.Path.{_≡_, refl, ap, sym, subst, _∙_}
+use mathlib.Core.Path.{_≡_, refl, sym, _∙_}
 use Prim.Native.Nat.{ℕ, _≤_}
-use native.Mathlib.Omega.{arith}
 use lib.ListN.{take, drop, take-append-drop}
 use lib.Seq.{take-take}
 use Rattle.broker.specs.Sound.{sound}
@@ -23,10 +22,8 @@ use Rattle.printout.specs.declared.turn.Next.the-variants.{Again, Read, 
 use Rattle.printout.specs.declared.turn.Turned.{Turned}
 
 -- The state stays sound.
-pub course-sound :
-    {read written : List ℕ} {s : State} {base : ℕ} {held : List ℕ} {done : Bool} →
-    Course read written s base held done →
-    sound s ≡ true
+course-sound :
+    {read written : List ℕ} {s : State} {base : ℕ} {held : List ℕ} {done : Bool} → Course read written s base held done → sound s ≡ true
 course-sound begun = fresh-sound
 course-sound (reads x bytes done) = course-sound x
 course-sound (turns x shows more) = shows .stays
@@ -39,61 +36,38 @@ goes-on End base s log go = absurd (go refl)
 goes-on TooLong base s log go = refl
 
 -- What was written and what is left to print is the printed run of what was read and what follows.
-pub course-prints :
-    {read written : List ℕ} {s : State} {base : ℕ} {held : List ℕ} {done : Bool} →
-    Course read written s base held done →
-    (more : List ℕ) →
-    MayFollow done more →
-    written ++ left nameFor base s (held ++ more) ≡ printed nameFor fresh (read ++ more)
+course-prints : {read written : List ℕ} {s : State} {base : ℕ} {held : List ℕ} {done : Bool} → Course read written s base held done →
+    (more : List ℕ) → MayFollow done more → written ++ left nameFor base s (held ++ more) ≡ printed nameFor fresh (read ++ more)
 course-prints begun more may = sym (printed-is-left nameFor fresh more fresh-sound)
-course-prints (reads {read} {written} {s} {base} {held} x bytes done) more may =
-    rw (append-assoc held bytes more, append-assoc read bytes more)
-    (course-prints x (bytes ++ more) (λ t. let z : _≡_ {A = ℕ} 0 1 = cc in absurd (omega arith)))
-course-prints (turns {read} {written} {s} {base} {held} x {state} {held'} {r} {page} shows go) more may =
-    append-assoc written (take (r .used) page) (left nameFor (r .base) state (held' ++ more)) ∙
-    ap (λ (t : List ℕ). written ++ (take (r .used) page ++ t)) (sym (goes-on (r .next) (r .base) state (held' ++ more) go)) ∙
-    ap (λ (t : List ℕ). written ++ t) (sym (shows .prints more may)) ∙
-    course-prints x more may
+course-prints (reads {read = read} {held = held} x bytes done) more may =
+    rw (append-assoc held bytes more, append-assoc read bytes more) (course-prints x (bytes ++ more) (λ t. cc))
+course-prints (turns {written = written} x {state} {held'} {r} {page} shows go) more may =
+    rw (append-assoc written, ← goes-on (r .next) (r .base) state (held' ++ more) go, ← shows .prints more may)
+    (course-prints x more may)
 
 -- With the last turn all that is written is the printed run of all that was read, and whatever follows is no part of it.
-pub course-ends :
-    {read written : List ℕ} {s : State} {base : ℕ} {held : List ℕ} {done : Bool} →
-    Course read written s base held done →
-    {state : State} {held' : List ℕ} {r : Turned} {page : List ℕ} →
-    Shows s held base done state held' r page →
-    r .next ≡ End →
-    (more : List ℕ) →
-    MayFollow done more →
-    Prints fresh (read ++ more) (written ++ take (r .used) page)
-course-ends {read} {written} x {state} {held'} {r} {page} shows e more may =
-    let all : left nameFor _ _ _ ≡ take (r .used) page = shows .prints more may ∙ rw (e, append-nil) in
-    subst (Prints fresh (read ++ more)) (sym (course-prints x more may) ∙ ap (λ (t : List ℕ). written ++ t) all)
-    (prints fresh (read ++ more))
+pub course-ends : {read written : List ℕ} {s : State} {base : ℕ} {held : List ℕ} {done : Bool} → Course read written s base held done →
+    {state : State} {held' : List ℕ} {r : Turned} {page : List ℕ} → Shows s held base done state held' r page → r .next ≡ End →
+    (more : List ℕ) → MayFollow done more → Prints fresh (read ++ more) (written ++ take (r .used) page)
+course-ends {read} {s = s} {base} {held} x {r = r} {page} shows e more may =
+    let all : left nameFor base s (held ++ more) ≡ take (r .used) page = shows .prints more may ∙ rw (e, append-nil) in
+    rw (← all, course-prints x more may) (prints fresh (read ++ more))
 
 module _ {s : State} {base : ℕ} {held : List ℕ} {done : Bool} (x : Stands s base held done) where
   pub stands-sound : sound s ≡ true
   stands-sound = course-sound (x .course)
 
   -- A program takes a turn that is not the last.
-  pub stands-on :
-      {state : State} {held' : List ℕ} {r : Turned} {page : List ℕ} →
-      Shows s held base done state held' r page →
-      (r .next ≡ End → ⊥) →
-      Stands state (r .base) held' done
+  pub stands-on : {state : State} {held' : List ℕ} {r : Turned} {page : List ℕ} → Shows s held base done state held' r page →
+      (r .next ≡ End → ⊥) → Stands state (r .base) held' done
   stands-on {r = r} {page = page} shows go =
       record { read = x .read; written = x .written ++ take (r .used) page; course = turns (x .course) shows go }
 
 -- A program reads behind what its buffer holds.
-pub stands-filled :
-    {s : State} {base : ℕ} (held : ℕ) (buffer : List ℕ) →
-    Stands s base (take held buffer) false →
-    (buffer' : List ℕ) (now : ℕ) (done : Bool) →
-    take held buffer' ≡ take held buffer →
-    held ≤ now →
-    Stands s base (take now buffer') done
-stands-filled {s} {base} held buffer x buffer' now done same more =
+pub stands-filled : {s : State} {base : ℕ} (held : ℕ) (buffer : List ℕ) → Stands s base (take held buffer) false → (buffer' : List ℕ)
+    (now : ℕ) (done : Bool) → take held buffer' ≡ take held buffer → held ≤ now → Stands s base (take now buffer') done
+stands-filled held buffer x buffer' now done same more =
     let bytes = drop held (take now buffer') in
     let front : take held (take now buffer') ≡ take held buffer = take-take held now buffer' more ∙ same in
     let all : take held buffer ++ bytes ≡ take now buffer' = rw front at (take-append-drop held (take now buffer')) in
-    subst (λ (l : List ℕ). Stands s base l done) all
-    (record { read = x .read ++ bytes; written = x .written; course = reads (x .course) bytes done })
+    rw (← all) (record { read = x .read ++ bytes; written = x .written; course = reads (x .course) bytes done })

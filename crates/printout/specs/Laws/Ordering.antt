@@ -1,6 +1,6 @@
 -- The ordering claim for what a run from the fresh state leaves: the steps that the run takes are a list of steps, and it leaves what
 -- the list leaves; after any number of whole records, and after a run in pieces. Paper 01, "Lists of steps". Assumes nothing.
-use mathlib.Core.Path.{_≡_, refl, ap, sym, subst, _∙_}
+use mathlib.Core.Path.{_≡_, refl, ap, sym, _∙_}
 use mathlib.Core.Bool.{true, cond}
 use mathlib.Core.List.{List, [], _∷_, _++_, map}
 use Prim.Native.Nat.{ℕ, zero, suc, _<_}
@@ -35,47 +35,33 @@ readings named (suc n) s log at =
     []
 
 module _ (named : Naming) where
-  -- They stand where the answers of the run stand.
-  pub readings-stand :
+  -- They leave the state that the run leaves, and stand where its answers stand.
+  pub readings-run :
       (n : ℕ) (s : State) (log : List ℕ) (at : ℕ) →
-      map (λ (x : Reading). x .at) (readings named n s log at) ≡ map (λ (a : Answered). a .at) (runLog named n s log at .answers)
+      (after s (readings named n s log at) ≡ runLog named n s log at .state) ×
+      (map (λ (x : Reading). x .at) (readings named n s log at) ≡ map (λ (a : Answered). a .at) (runLog named n s log at .answers))
   unfolding runLog
-  readings-stand zero s log at = refl
-  readings-stand (suc n) s log at =
+  readings-run zero s log at = (refl, refl)
+  readings-run (suc n) s log at =
       let o = stepBy named s log at in
-      let later = readings-stand n (o .state) log (o .next) in
+      let later = readings-run n (o .state) log (o .next) in
       by-test (ltb at (length log))
-      (λ t. by-test (stops (o .answer)) (λ u. rw (t, u)) (λ u. rw (t, u) (ap (λ (ns : List ℕ). at ∷ ns) later)))
-      (λ t. rw t)
-
-  -- They leave the state that the run leaves.
-  readings-leave :
-      (n : ℕ) (s : State) (log : List ℕ) (at : ℕ) → after s (readings named n s log at) ≡ runLog named n s log at .state
-  unfolding runLog
-  readings-leave zero s log at = refl
-  readings-leave (suc n) s log at =
-      let o = stepBy named s log at in
-      let later = readings-leave n (o .state) log (o .next) in
-      by-test (ltb at (length log))
-      (λ t. by-test (stops (o .answer)) (λ u. rw (t, u)) (λ u. rw (t, u) later))
-      (λ t. rw t)
+      (λ t. by-test (stops (o .answer)) (λ u. rw (t, u) (refl, refl)) (λ u. rw (t, u) (later .0, rw (later .1))))
+      (λ t. rw t (refl, refl))
 
   -- both halves of the claim, for the first steps of a log and the state that they leave: what was taken and then what is unread is what
   -- was sent, and where no move is open there is a second list
   pub record Ordered (n : ℕ) (log : List ℕ) (s : State) : Type 0 where
     pub first-half :
-        (a b : Rank) →
-        a .0 < 16 →
-        b .0 < 16 →
-        taken a b (accepted fresh (readings named n fresh log 0)) ++ unread a b s ≡
-        sent a b (accepted fresh (readings named n fresh log 0))
+        (a b : Rank) → a .0 < 16 → b .0 < 16 →
+        let steps = accepted fresh (readings named n fresh log 0) in taken a b steps ++ unread a b s ≡ sent a b steps
     pub second-half : noMoveOpen s ≡ true → SecondList (readings named n fresh log 0)
 
   -- They hold of what a run leaves.
   run-ordered : (n : ℕ) (log : List ℕ) (s : State) → runLog named n fresh log 0 .state ≡ s → Ordered n log s
   run-ordered n log s e =
       let steps = readings named n fresh log 0 in
-      let leave : after fresh steps ≡ s = readings-leave n fresh log 0 ∙ e in
+      let leave : after fresh steps ≡ s = readings-run n fresh log 0 .0 ∙ e in
       record {
         first-half = λ a b ha hb. rw leave at (ordering .first-half steps a b ha hb);
         second-half = λ h. ordering .second-half steps (rw leave h);
@@ -83,28 +69,20 @@ module _ (named : Naming) where
 
   -- They hold of what so many whole records of a log leave.
   pub wholes-ordered : (n : ℕ) (log : List ℕ) → Ordered n log (wholes named 0 n fresh log 0 .state)
-  wholes-ordered n log =
-      run-ordered n log (wholes named 0 n fresh log 0 .state) (same-state named log n fresh 0 fresh-sound)
+  wholes-ordered n log = run-ordered n log _ (same-state named log n fresh 0 fresh-sound)
 
   -- They hold of what a run in pieces leaves.
-  pub pieces-ordered :
-      (ts : List Turn) → let log = allBytes ts in Ordered (length log) log (inPieces named 0 fresh [] ts .state)
+  pub pieces-ordered : (ts : List Turn) → let log = allBytes ts in Ordered (length log) log (inPieces named 0 fresh [] ts .state)
   pieces-ordered ts =
       let log = allBytes ts in
-      let c = inPieces named 0 fresh [] ts in
-      run-ordered (length log) log (c .state) (ap (λ (c : Came). c .state) (sym (run-in-pieces named ts fresh fresh-sound)))
+      run-ordered (length log) log _ (ap (λ (c : Came). c .state) (sym (run-in-pieces named ts fresh fresh-sound)))
 
--- They hold of what a run of some whole records of a log leaves, and so of runs in a row (`ran-longer` and `ran-on`).
-pub ran-ordered :
-    {log : List ℕ} {steps : ℕ} {state : State} {at : ℕ} {text : List ℕ} →
-    Ran fresh log 0 steps state at text →
+-- They hold of what a run of some whole records of a log leaves, and so of runs in a row (`ran-on`).
+pub ran-ordered : {log : List ℕ} {steps : ℕ} {state : State} {at : ℕ} {text : List ℕ} → Ran fresh log 0 steps state at text →
     Ordered nameFor steps log state
-ran-ordered {log} {steps} i =
-    subst (λ (c : Came). Ordered nameFor steps log (c .state)) (sym (i .came)) (wholes-ordered nameFor steps log)
+ran-ordered {log} {steps} i = rw (← i .came) at (wholes-ordered nameFor steps log)
 
 -- They hold of what `run_piece` leaves of a first piece.
-pub piece-ordered :
-    {piece : List ℕ} {room : ℕ} {state : State} {at used steps : ℕ} {page : List ℕ} →
-    RanSome fresh piece 0 room state at used steps page →
-    Ordered nameFor steps piece state
+pub piece-ordered : {piece : List ℕ} {room : ℕ} {state : State} {at used steps : ℕ} {page : List ℕ} →
+    RanSome fresh piece 0 room state at used steps page → Ordered nameFor steps piece state
 piece-ordered i = ran-ordered (i .ran fresh-sound)

@@ -1,26 +1,21 @@
 -- Laws of the text of a run: steps in front are lines in front, and the rank that a look names here is one that it may name.
 -- Assumes nothing.
-use mathlib.Core.Path.{_≡_, refl, ap, sym, _∙_}
+use mathlib.Core.Path.{_≡_, refl}
 use mathlib.Core.List.{List, [], _∷_, _++_, append-assoc}
-use Prim.Native.Nat.{ℕ}
-use Rattle.lines.specs.Lines.{recordLine}
 use Rattle.broker.specs.State.{State}
 use Rattle.broker.specs.declared.record.Decoded.the-variants.{Whole}
 use Rattle.steps.specs.Laws.Step.{name-fits}
 use Rattle.checks.specs.Look.{nameFor}
-use Rattle.printout.specs.Printed.{linesOf, lastLines, textOf, printed, Prints}
+use Rattle.printout.specs.Printed.{linesOf, textOf, printed, Prints}
 use Rattle.printout.specs.Run.{Answered, Came, behind}
+use Prim.Native.Nat.{ℕ}
 
 pub lines-append : (xs ys : List Answered) → linesOf (xs ++ ys) ≡ linesOf xs ++ linesOf ys
 lines-append [] ys = refl
-lines-append (x ∷ xs) ys =
-    let line = recordLine (x .at) (x .kind) (x .answer) in
-    ap (λ (t : List ℕ). line ++ t) (lines-append xs ys) ∙ sym (append-assoc line (linesOf xs) (linesOf ys))
+lines-append (x ∷ xs) ys = rw (lines-append xs ys, append-assoc)
 
 pub text-behind : (xs : List Answered) (c : Came) → textOf (behind xs c) ≡ linesOf xs ++ textOf c
-text-behind xs c =
-    ap (λ (t : List ℕ). t ++ lastLines (c .state)) (lines-append xs (c .answers)) ∙
-    append-assoc (linesOf xs) (linesOf (c .answers)) (lastLines (c .state))
+text-behind xs c = rw (lines-append xs, append-assoc)
 
 -- "look's rank is tested for being allowed": the one that `steps` names is.
 pub prints : (s : State) (log : List ℕ) → Prints s log (printed nameFor s log)

@@ -1,12 +1,13 @@
--- Laws of the whole records of a log: where they end, one record more at either end, and a log in front of them or behind them.
--- Assumes nothing.
+-- Laws of the whole records of a log: where they end, one record more at either end, some of them and then the others, and a log of which
+-- the front is dropped. Assumes nothing.
 use mathlib.Core.Path.{_≡_, refl, ap, sym, _∙_}
 use mathlib.Core.Bool.{false}
 use mathlib.Core.List.{List, [], _∷_, _++_}
-use Prim.Native.Nat.{ℕ, zero, suc, _+_, _≤_}
+use Prim.Native.Nat.{ℕ, zero, suc, _+_, _-_, _≤_}
 use native.Mathlib.Nat.{zero-add}
 use native.Mathlib.Omega.{arith}
-use lib.ListN.{length, length-append, List·getD-append}
+use lib.ListN.{length, drop, length-drop, List·getD-append}
+use lib.Seq.{getD-drop}
 use Rattle.broker.specs.Record.{decode}
 use Rattle.broker.specs.State.{State}
 use Rattle.broker.specs.declared.answer.Answer.{Answer}
@@ -14,7 +15,7 @@ use Rattle.broker.specs.declared.record.Decoded.{Decoded}
 use Rattle.broker.specs.declared.record.Decoded.the-variants.{Whole, Unknown, Cut}
 use Rattle.broker.specs.declared.record.Record.{Record}
 use Rattle.steps.specs.Record.{at-end}
-use Rattle.printout.specs.Laws.Window.{moved, passes, stands, whole-stays, byte-behind, decode-behind}
+use Rattle.printout.specs.Laws.Window.{moved, stands, whole-stays, decode-dropped}
 use Rattle.printout.specs.Run.{Came, Naming, standing, behind}
 use Rattle.printout.specs.Wholes.{isWhole, answeredAt, settled, onRead, wholes, allWholes}
 
@@ -28,155 +29,84 @@ module _ (named : Naming) (base : ℕ) (log : List ℕ) where
       (P : ℕ → State → ℕ → Came → Type 0)
       (no-steps : (s : State) (at : ℕ) → P 0 s at (standing s at))
       (no-record : (n : ℕ) (s : State) (at : ℕ) → isWhole (decode log at) ≡ false → P (suc n) s at (standing s at))
-      (one-more :
-      (n : ℕ) (s : State) (at : ℕ) (r : Record) (next : ℕ) →
-      decode log at ≡ Whole r next →
-      (c : Came) →
-      P n (settled named s r .state) next c →
-      P (suc n) s at (ahead s at r c))
+      (one-more : (n : ℕ) (s : State) (at : ℕ) (r : Record) (next : ℕ) → decode log at ≡ Whole r next → (c : Came) →
+      P n (settled named s r .state) next c → P (suc n) s at (ahead s at r c))
     where
       pub along : (n : ℕ) (s : State) (at : ℕ) → P n s at (wholes named base n s log at)
       unfolding wholes
       along zero s at = no-steps s at
       along (suc n) s at = by (decode log at) refl (λ t k. along n t k)
         where
-          by :
-              (d : Decoded) →
-              decode log at ≡ d →
-              ((t : State) (k : ℕ) → P n t k (wholes named base n t log k)) →
-              P (suc n) s at (onRead named base s log at (λ t k. wholes named base n t log k) (decode log at))
-          by (Whole r next) e later = rw e (one-more n s at r next e _ (later (settled named s r .state) next))
-          by Unknown e later = rw e (no-record n s at (ap isWhole e))
-          by Cut e later = rw e (no-record n s at (ap isWhole e))
-
-  -- A run of no steps stands where it began.
-  pub no-steps-yet : (s : State) (at : ℕ) → wholes named base 0 s log at ≡ standing s at
-  unfolding wholes
-  no-steps-yet s at = refl
+          by : (d : Decoded) → decode log at ≡ d → ((t : State) (k : ℕ) → P n t k (wholes named base n t log k)) →
+              P (suc n) s at (onRead named base s log at (λ t k. wholes named base n t log k) d)
+          by (Whole r next) e later = one-more n s at r next e _ (later (settled named s r .state) next)
+          by Unknown e later = no-record n s at (ap isWhole e)
+          by Cut e later = no-record n s at (ap isWhole e)
 
   -- Where no whole record stands, none is run.
   pub none-run : (n : ℕ) (s : State) (at : ℕ) → isWhole (decode log at) ≡ false → wholes named base n s log at ≡ standing s at
   none-run =
-      along (λ n s at c. isWhole (decode log at) ≡ false → c ≡ standing s at)
-      (λ s at h. refl)
-      (λ n s at none h. refl)
-      (λ n s at r next e c later h. let z : _≡_ {A = ℕ} 0 1 = cc in absurd (omega arith))
+      along (λ n s at c. isWhole (decode log at) ≡ false → c ≡ standing s at) (λ s at h. refl) (λ n s at none h. refl)
+      (λ n s at r next e c later h. cc (ap isWhole e))
 
   -- A whole record is run first.
-  pub one-first :
-      (n : ℕ) (s : State) (at : ℕ) (r : Record) (next : ℕ) →
-      decode log at ≡ Whole r next →
+  pub one-first : (n : ℕ) (s : State) (at : ℕ) {r : Record} {next : ℕ} → decode log at ≡ Whole r next →
       wholes named base (suc n) s log at ≡ ahead s at r (wholes named base n (settled named s r .state) log next)
   unfolding wholes
-  one-first n s at r next e = rw e
+  one-first n s at e = rw e
 
   -- A run comes to no position past the log's end.
   pub run-within : (n : ℕ) (s : State) (at : ℕ) → at ≤ length log → wholes named base n s log at .at ≤ length log
   run-within =
-      along (λ n s at c. at ≤ length log → c .at ≤ length log)
-      (λ s at h. h)
-      (λ n s at none h. h)
-      (λ n s at r next e c later h. later (stands log at r next e .fits))
+      along (λ n s at c. at ≤ length log → c .at ≤ length log) (λ s at h. h) (λ n s at none h. h)
+      (λ n s at r next e c later h. later (stands log at e .fits))
 
   -- A bound that reaches the log's end is no part of what a run comes to.
-  pub bound-is-free :
-      (n m : ℕ) (s : State) (at : ℕ) →
-      length log ≤ at + n →
-      length log ≤ at + m →
+  pub bound-is-free : (n m : ℕ) (s : State) (at : ℕ) → length log ≤ at + n → length log ≤ at + m →
       wholes named base n s log at ≡ wholes named base m s log at
   bound-is-free n m s at =
       along (λ n s at c. (m : ℕ) → length log ≤ at + n → length log ≤ at + m → c ≡ wholes named base m s log at)
       (λ s at m h g. sym (none-run m s at (ap isWhole (at-end log at (omega arith)))))
       (λ n s at none m h g. sym (none-run m s at none))
-      one-more
+      (λ n s at r next e c later m h g.
+      let there = stands log at e in
+      let one : m ≡ suc (m - 1) = omega arith in
+      rw one (ap (ahead s at r) (later (m - 1) (omega arith) (omega arith)) ∙ sym (one-first (m - 1) s at e)))
       n s at m
-    where
-      one-more :
-          (n : ℕ) (s : State) (at : ℕ) (r : Record) (next : ℕ) →
-          decode log at ≡ Whole r next →
-          (c : Came) →
-          ((m : ℕ) → length log ≤ next + n → length log ≤ next + m → c ≡ wholes named base m (settled named s r .state) log next) →
-          (m : ℕ) →
-          length log ≤ at + suc n →
-          length log ≤ at + m →
-          ahead s at r c ≡ wholes named base m s log at
-      one-more n s at r next e c later zero h g = let there = stands log at r next e .inside in absurd (omega arith)
-      one-more n s at r next e c later (suc m) h g =
-          let past = passes log at r next e in
-          ap (ahead s at r) (later m (omega arith) (omega arith)) ∙ sym (one-first m s at r next e)
-
-  -- A whole record is run first, and then all the others.
-  pub all-but-one :
-      (s : State) (at : ℕ) (r : Record) (next : ℕ) →
-      decode log at ≡ Whole r next →
-      allWholes named base s log at ≡ ahead s at r (allWholes named base (settled named s r .state) log next)
-  all-but-one s at r next e =
-      bound-is-free (length log) (suc (length log)) s at (omega arith) (omega arith) ∙ one-first (length log) s at r next e
-
-  -- Where all are run, no whole record stands any more.
-  pub none-left : (s : State) (at : ℕ) → isWhole (decode log (allWholes named base s log at .at)) ≡ false
-  none-left s at =
-      along (λ n s at c. length log ≤ at + n → isWhole (decode log (c .at)) ≡ false)
-      (λ s at h. ap isWhole (at-end log at (omega arith)))
-      (λ n s at none h. none)
-      (λ n s at r next e c later h. let past = passes log at r next e in later (omega arith))
-      (length log) s at (omega arith)
 
   -- what some whole records have come to, with one record more at their end
-  abbrev pub further : Came → Record → ℕ → Came
+  abbrev further : Came → Record → ℕ → Came
   further c r next =
-      record {
-        state = settled named (c .state) r .state;
-        at = next;
-        answers = c .answers ++ (answeredAt base log (c .at) (settled named (c .state) r .answer) ∷ []);
-      }
+      let x = settled named (c .state) r in
+      record { state = x .state; at = next; answers = c .answers ++ (answeredAt base log (c .at) (x .answer) ∷ []) }
 
   -- A whole record is run last.
-  pub one-last :
-      (n : ℕ) (s : State) (at : ℕ) (r : Record) (next : ℕ) →
-      decode log (wholes named base n s log at .at) ≡ Whole r next →
+  pub one-last : (n : ℕ) (s : State) (at : ℕ) (r : Record) (next : ℕ) → decode log (wholes named base n s log at .at) ≡ Whole r next →
       wholes named base (suc n) s log at ≡ further (wholes named base n s log at) r next
+  unfolding wholes
   one-last n s at r next =
       along (λ n s at c. decode log (c .at) ≡ Whole r next → wholes named base (suc n) s log at ≡ further c r next)
-      (λ s at e. one-first 0 s at r next e ∙ ap (ahead s at r) (no-steps-yet (settled named s r .state) next))
-      (λ n s at none e. let z : _≡_ {A = ℕ} 0 1 = cc in absurd (omega arith))
-      (λ n s at q k d c later e. one-first (suc n) s at q k d ∙ ap (ahead s at q) (later e))
+      (λ s at e. one-first 0 s at e)
+      (λ n s at none e. cc (ap isWhole e))
+      (λ n s at q k d c later e. one-first (suc n) s at d ∙ ap (ahead s at q) (later e))
       n s at
 
--- Some whole records of a piece, and then all that follow them in the piece and behind it, are all of both.
+-- Some whole records of a piece, and then as many more, of it and of what follows it, are so many of both.
 module _ (named : Naming) (base : ℕ) (piece more : List ℕ) where
-  abbrev log : List ℕ
-  log = piece ++ more
-
-  pub some-first :
-      (n : ℕ) (s : State) (at : ℕ) →
-      let w = wholes named base n s piece at in
-      allWholes named base s (piece ++ more) at ≡ behind (w .answers) (allWholes named base (w .state) (piece ++ more) (w .at))
-  some-first =
-      along named base piece
-      (λ n s at c. allWholes named base s log at ≡ behind (c .answers) (allWholes named base (c .state) log (c .at)))
-      (λ s at. refl)
-      (λ n s at none. refl)
-      (λ n s at r next e c later.
-      let there = stands piece at r next e .inside in
-      let same = List·getD-append piece more 0 at there in
-      all-but-one named base log s at r next (whole-stays piece more at r next e) ∙
-      rw same (ap (ahead named base piece s at r) later))
-
--- Some whole records, and then some more, are as many in a row.
-module _ (named : Naming) (base : ℕ) (log : List ℕ) where
-  pub in-a-row :
-      (m n : ℕ) (s : State) (at : ℕ) →
-      let w = wholes named base n s log at in
-      wholes named base (n + m) s log at ≡ behind (w .answers) (wholes named base m (w .state) log (w .at))
+  pub in-a-row : (m n : ℕ) (s : State) (at : ℕ) → let w = wholes named base n s piece at in
+      wholes named base (length (w .answers) + m) s (piece ++ more) at ≡
+      behind (w .answers) (wholes named base m (w .state) (piece ++ more) (w .at))
   in-a-row m =
-      along named base log
-      (λ n s at c. wholes named base (n + m) s log at ≡ behind (c .answers) (wholes named base m (c .state) log (c .at)))
+      along named base piece
+      (λ n s at c. wholes named base (length (c .answers) + m) s (piece ++ more) at ≡
+      behind (c .answers) (wholes named base m (c .state) (piece ++ more) (c .at)))
       (λ s at. rw (zero-add m))
-      (λ n s at none. none-run named base log (suc n + m) s at none ∙ sym (none-run named base log m s at none))
+      (λ n s at none. rw (zero-add m))
       (λ n s at r next e c later.
-      let one-more : suc n + m ≡ suc (n + m) = omega arith in
-      rw one-more (one-first named base log (n + m) s at r next e ∙ ap (ahead named base log s at r) later))
+      let one : suc (length (c .answers)) + m ≡ suc (length (c .answers) + m) = omega arith in
+      let same = List·getD-append piece more 0 at (stands piece at e .inside) in
+      rw one (one-first named base (piece ++ more) (length (c .answers) + m) s at (whole-stays piece more at e) ∙
+      rw same (ap (ahead named base piece s at r) later)))
 
 -- What whole records come to, so many bytes further on.
 abbrev pub movedBy : ℕ → Came → Came
@@ -187,50 +117,26 @@ moved-whole k (Whole r next) = refl
 moved-whole k Unknown = refl
 moved-whole k Cut = refl
 
--- Records that were run of a piece are run of the piece and what follows it.
-pub run-stays :
-    (named : Naming) (base : ℕ) (piece more : List ℕ) (n : ℕ) (s : State) (at : ℕ) →
-    length (wholes named base n s piece at .answers) ≡ n →
-    wholes named base n s (piece ++ more) at ≡ wholes named base n s piece at
-run-stays named base piece more =
-    along named base piece (λ n s at c. length (c .answers) ≡ n → wholes named base n s (piece ++ more) at ≡ c)
-    (λ s at h. no-steps-yet named base (piece ++ more) s at)
-    (λ n s at none h. absurd (omega arith))
-    (λ n s at r next e c later h.
-    let there = stands piece at r next e .inside in
-    let same = List·getD-append piece more 0 at there in
-    one-first named base (piece ++ more) n s at r next (whole-stays piece more at r next e) ∙
-    rw same (ap (ahead named base piece s at r) (later (omega arith))))
+-- The front of a log, where it is dropped, moves what the other records come to, and no more.
+module _ (named : Naming) (base : ℕ) (log : List ℕ) (k : ℕ) (room : k ≤ length log) where
+  answered-dropped : (at : ℕ) (a : Answer) → answeredAt base log (k + at) a ≡ answeredAt (base + k) (drop k log) at a
+  answered-dropped at a = let place : base + (k + at) ≡ base + k + at = omega arith in rw (place, getD-drop)
 
--- What stands before a log is no part of a step's position in the input, or of its kind.
-pub answered-behind :
-    (base : ℕ) (gone log : List ℕ) (at : ℕ) (a : Answer) →
-    answeredAt base (gone ++ log) (length gone + at) a ≡ answeredAt (base + length gone) log at a
-answered-behind base gone log at a =
-    let place : base + (length gone + at) ≡ base + length gone + at = omega arith in
-    rw (place, byte-behind gone log at)
-
--- It moves what the log's records come to, and no more.
-module _ (named : Naming) (base : ℕ) (gone log : List ℕ) where
-  pub wholes-behind :
-      (n : ℕ) (s : State) (at : ℕ) →
-      wholes named base n s (gone ++ log) (length gone + at) ≡ movedBy (length gone) (wholes named (base + length gone) n s log at)
-  wholes-behind =
-      along named (base + length gone) log
-      (λ n s at c. wholes named base n s (gone ++ log) (length gone + at) ≡ movedBy (length gone) c)
-      (λ s at. no-steps-yet named base (gone ++ log) s (length gone + at))
+  pub wholes-dropped :
+      (n : ℕ) (s : State) (at : ℕ) → wholes named base n s log (k + at) ≡ movedBy k (wholes named (base + k) n s (drop k log) at)
+  unfolding wholes
+  wholes-dropped =
+      along named (base + k) (drop k log) (λ n s at c. wholes named base n s log (k + at) ≡ movedBy k c)
+      (λ s at. refl)
       (λ n s at none.
-      none-run named base (gone ++ log) (suc n) s (length gone + at)
-      (ap isWhole (decode-behind gone log at) ∙ moved-whole (length gone) (decode log at) ∙ none))
+      none-run named base log (suc n) s (k + at)
+      (ap isWhole (decode-dropped log k room at) ∙ moved-whole k (decode (drop k log) at) ∙ none))
       (λ n s at r next e c later.
-      let read = decode-behind gone log at ∙ ap (moved (length gone)) e in
-      one-first named base (gone ++ log) n s (length gone + at) r (length gone + next) read ∙
-      rw (answered-behind base gone log at (settled named s r .answer)) (ap (ahead named (base + length gone) log s at r) later))
+      one-first named base log n s (k + at) (decode-dropped log k room at ∙ ap (moved k) e) ∙
+      rw (answered-dropped at (settled named s r .answer)) (ap (ahead named (base + k) (drop k log) s at r) later))
 
-  pub all-behind :
-      (s : State) (at : ℕ) →
-      allWholes named base s (gone ++ log) (length gone + at) ≡ movedBy (length gone) (allWholes named (base + length gone) s log at)
-  all-behind s at =
-      let long = length-append gone log in
-      bound-is-free named base (gone ++ log) (length (gone ++ log)) (length log) s (length gone + at) (omega arith) (omega arith) ∙
-      wholes-behind (length log) s at
+  pub all-dropped : (s : State) (at : ℕ) → allWholes named base s log (k + at) ≡ movedBy k (allWholes named (base + k) s (drop k log) at)
+  all-dropped s at =
+      let long = length-drop k log in
+      bound-is-free named base log (length log) (length (drop k log)) s (k + at) (omega arith) (omega arith) ∙
+      wholes-dropped (length (drop k log)) s at

@@ -17,9 +17,6 @@ Inv-loop buffer₀ from held kept₀ buffer kept =
 abbrev μ-loop : tie.MeasureT-loop
 μ-loop buffer₀ from held kept₀ buffer kept = held - kept
 
-loop-holds : tie.Need-loop-holds Inv-loop μ-loop
-loop-holds c = (refl, omega arith, refl)
-
 loop-again : tie.Need-loop-again Inv-loop μ-loop
 loop-again c =
     let head = c .before .before in
@@ -37,6 +34,5 @@ returns c =
     rw (head .loop .inv .0, all) (all-moved (args .buffer .now) (args .from) (args .held) (omega arith) (omega arith))
 
 pub keep-rest-spec : {M : Type 1} → statement M
-keep-rest-spec =
-    tie.close (tie.spec Inv-loop μ-loop loop-holds (search needs) (search needs) (search needs) (search needs)
-    (search needs) (search needs) loop-again (search needs) returns)
+keep-rest-spec = tie.close (tie.spec Inv-loop μ-loop (λ c. (refl, omega arith, refl)) (search needs) (search needs) (search needs)
+    (search needs) (search needs) (search needs) loop-again (search needs) returns)

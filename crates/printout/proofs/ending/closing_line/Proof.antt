@@ -14,9 +14,7 @@ use Rattle.printout.proofs.ending.closing_line.Tie as tie
 returns : tie.Need-returns
 returns c =
     let args = c .before .before .before .args in
-    as-text
-    (sym (ap linesOf (closing-at-end (args .base) (args .rest .now) 0 (omega arith))))
-    (at-most (omega arith) nothing)
+    as-text (at-most nothing (omega arith)) (sym (ap linesOf (closing-at-end (args .base) (args .rest .now) 0 (omega arith))))
 
 returns-2 : tie.Need-returns-2
 returns-2 c =
@@ -27,5 +25,4 @@ returns-2 c =
     (line .refused-line .ensures)
 
 pub closing-line-spec : {M : Type 1} → statement M
-closing-line-spec =
-    tie.close (tie.spec returns (search needs) (search needs) (search needs) (search needs) returns-2)
+closing-line-spec = tie.close (tie.spec returns (search needs) (search needs) (search needs) (search needs) returns-2)

@@ -3,15 +3,7 @@ use Rattle.steps.specs.Record.{kind-below, kind-above, kind-between}
 use Rattle.printout.proofs.ending.reason_of.Statement.{statement}
 use Rattle.printout.proofs.ending.reason_of.Tie as tie
 
-returns : tie.Need-returns
-returns c = rw (kind-below (c .before .args .kind) (c .if1 .taken))
-
-returns-2 : tie.Need-returns-2
-returns-2 c = rw (kind-above (c .before .before .args .kind) (c .before .if1 .left) (c .if2 .taken))
-
-returns-3 : tie.Need-returns-3
-returns-3 c = rw (kind-between (c .before .before .args .kind) (c .before .if1 .left) (c .if2 .left))
-
 pub reason-of-spec : {M : Type 1} → statement M
-reason-of-spec =
-    tie.close (tie.spec returns returns-2 returns-3)
+reason-of-spec = tie.close (tie.spec (λ c. rw (kind-below (c .before .args .kind) (c .if1 .taken)))
+    (λ c. rw (kind-above (c .before .before .args .kind) (c .before .if1 .left) (c .if2 .taken)))
+    (λ c. rw (kind-between (c .before .before .args .kind) (c .before .if1 .left) (c .if2 .left))))

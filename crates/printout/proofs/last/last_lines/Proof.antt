@@ -6,8 +6,9 @@ use native.Mathlib.Omega.{arith}
 use borrow.Author.Needs.{needs}
 use Rattle.lines.specs.Lines.{linesOfSender, pairLines, textsBelow}
 use Rattle.transit.specs.Message.{ranks}
+use Rattle.page.specs.Laws.Put.{nothing}
 use Rattle.printout.specs.Last.{PutOf, senderRoom}
-use Rattle.printout.specs.Laws.Last.{none-said, said-of-any, and-then, said-in}
+use Rattle.printout.specs.Laws.Last.{said-of-any, and-then, said-in}
 use Rattle.printout.proofs.last.last_lines.Statement.{statement}
 use Rattle.printout.proofs.last.last_lines.Tie as tie
 
@@ -17,12 +18,6 @@ Inv-loop page₀ used slots at₀ a₀ page at a =
 
 abbrev μ-loop : tie.MeasureT-loop
 μ-loop page₀ used slots at₀ a₀ page at a = ranks - a
-
-loop-holds : tie.Need-loop-holds Inv-loop μ-loop
-loop-holds c = (none-said, omega arith)
-
-lines-of-sender-requires : tie.Need-lines-of-sender-requires Inv-loop μ-loop
-lines-of-sender-requires c κs = (omega arith, omega arith)
 
 loop-again : tie.Need-loop-again Inv-loop μ-loop
 loop-again c =
@@ -39,6 +34,5 @@ returns c =
     and-then (rw all at (head .loop .inv .0)) (said-of-any (last .end-line .ensures))
 
 pub last-lines-spec : {M : Type 1} → statement M
-last-lines-spec =
-    tie.close (tie.spec Inv-loop μ-loop loop-holds lines-of-sender-requires (search needs) (search needs) loop-again
-    (search needs) (search needs) returns)
+last-lines-spec = tie.close (tie.spec Inv-loop μ-loop (λ c. (said-of-any nothing, omega arith)) (λ c κs. (omega arith, omega arith))
+    (search needs) (search needs) loop-again (search needs) (search needs) returns)

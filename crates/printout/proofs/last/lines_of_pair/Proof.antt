@@ -1,7 +1,6 @@
 -- `printout::last::lines_of_pair` meets its contract: nothing where the pair has nothing unread, and else its line. Assumes nothing.
-use mathlib.Core.List.{List, [], _∷_}
+use mathlib.Core.List.{[], _∷_}
 use mathlib.Core.Path.{sym, _∙_}
-use Prim.Native.Nat.{ℕ}
 use native.Mathlib.Omega.{arith}
 use borrow.Author.Needs.{needs}
 use Rattle.transit.specs.Mail.{messagesIn}
@@ -17,7 +16,7 @@ returns c =
     let args = between .before .before .args in
     record {
       text = [];
-      put = at-most (omega arith) nothing;
+      put = at-most nothing (omega arith);
       same = λ contents held.
           no-line (messagesIn (args .slots .now) contents) (args .a) (args .b)
           (sym (between .unread-between .ensures contents held) ∙ c .if1 .taken);
@@ -33,14 +32,14 @@ returns-2 c =
     let else = first .before in
     let between = else .before in
     let args = between .before .before .args in
-    let counts : List ℕ =
-    first .count-at .result ∷ second .count-at2 .result ∷ third .count-at3 .result ∷ fourth .count-at4 .result ∷ [] in
     record {
-      text = pairLine (args .a) (args .b) counts;
+      text =
+          pairLine (args .a) (args .b)
+          (first .count-at .result ∷ second .count-at2 .result ∷ third .count-at3 .result ∷ fourth .count-at4 .result ∷ []);
       put = line .pair-line .ensures;
       same = λ contents held.
-          let l = messagesIn (args .slots .now) contents in
-          one-line l (args .a) (args .b) (λ none. else .if1 .left (between .unread-between .ensures contents held ∙ none)) counts
+          one-line (messagesIn (args .slots .now) contents) (args .a) (args .b)
+          (λ none. else .if1 .left (between .unread-between .ensures contents held ∙ none))
           (rw (
             first .count-at .ensures contents held,
             second .count-at2 .ensures contents held,
@@ -50,6 +49,5 @@ returns-2 c =
     }
 
 pub lines-of-pair-spec : {M : Type 1} → statement M
-lines-of-pair-spec =
-    tie.close (tie.spec (search needs) returns (search needs) (search needs) (search needs) (search needs)
-    (search needs) (search needs) (search needs) (search needs) (λ c κs. search needs) (search needs) returns-2)
+lines-of-pair-spec = tie.close (tie.spec (search needs) returns (search needs) (search needs) (search needs) (search needs) (search needs)
+    (search needs) (search needs) (search needs) (λ c κs. search needs) (search needs) returns-2)

@@ -6,8 +6,9 @@ use native.Mathlib.Omega.{arith}
 use borrow.Author.Needs.{needs}
 use Rattle.lines.specs.Lines.{linesOfPair, pairRoom, textsBelow}
 use Rattle.transit.specs.Message.{ranks}
+use Rattle.page.specs.Laws.Put.{nothing}
 use Rattle.printout.specs.Last.{PutOf}
-use Rattle.printout.specs.Laws.Last.{none-said, and-then, said-in}
+use Rattle.printout.specs.Laws.Last.{said-of-any, and-then, said-in}
 use Rattle.printout.proofs.last.lines_of_sender.Statement.{statement}
 use Rattle.printout.proofs.last.lines_of_sender.Tie as tie
 
@@ -17,12 +18,6 @@ Inv-loop page₀ used a slots at₀ b₀ page at b =
 
 abbrev μ-loop : tie.MeasureT-loop
 μ-loop page₀ used a slots at₀ b₀ page at b = ranks - b
-
-loop-holds : tie.Need-loop-holds Inv-loop μ-loop
-loop-holds c = (none-said, omega arith)
-
-lines-of-pair-requires : tie.Need-lines-of-pair-requires Inv-loop μ-loop
-lines-of-pair-requires c κs = ((omega arith, omega arith), omega arith)
 
 loop-again : tie.Need-loop-again Inv-loop μ-loop
 loop-again c =
@@ -36,6 +31,5 @@ returns c =
     rw all at (c .before .loop .inv .0)
 
 pub lines-of-sender-spec : {M : Type 1} → statement M
-lines-of-sender-spec =
-    tie.close (tie.spec Inv-loop μ-loop loop-holds lines-of-pair-requires (search needs) (search needs) loop-again
-    (search needs) returns)
+lines-of-sender-spec = tie.close (tie.spec Inv-loop μ-loop (λ c. (said-of-any nothing, omega arith))
+    (λ c κs. ((omega arith, omega arith), omega arith)) (search needs) (search needs) loop-again (search needs) returns)

@@ -9,7 +9,7 @@ use lib.ListN.{length}
 use Rattle.steps.specs.Record.{at-end}
 use Rattle.checks.specs.Desk.{deskOf, Desk}
 use Rattle.printout.specs.Laws.Ran.{some-none, some-more}
-use Rattle.printout.specs.Laws.Window.{passes}
+use Rattle.printout.specs.Laws.Window.{stands}
 use Rattle.printout.specs.Ran.{RanSome}
 use Rattle.printout.proofs.piece.run_piece.Statement.{statement}
 use Rattle.printout.proofs.piece.run_piece.Tie as tie
@@ -20,8 +20,7 @@ Inv-loop piece base page₀ slots₀ contents₀ roster₀ at₀ used₀ steps�
     RanSome (deskOf slots₀ contents₀ roster₀) piece base (length page₀) (deskOf slots contents roster) at used steps page
 
 abbrev μ-loop : tie.MeasureT-loop
-μ-loop piece base page₀ slots₀ contents₀ roster₀ at₀ used₀ steps₀ page slots contents roster at used steps =
-    length piece - at
+μ-loop piece base page₀ slots₀ contents₀ roster₀ at₀ used₀ steps₀ page slots contents roster at used steps = length piece - at
 
 loop-holds : tie.Need-loop-holds Inv-loop μ-loop
 loop-holds c =
@@ -30,18 +29,13 @@ loop-holds c =
     let held = deskOf (args .slots .now) (args .contents .now) (args .roster .now) in
     (start .pre .0, some-none held (args .piece .now) (args .base) (args .page .now))
 
-returns : tie.Need-returns Inv-loop μ-loop
-returns c =
-    let inv = c .before .before .loop .inv in
-    (inv .0, (inv .1, omega arith))
-
 loop-less : tie.Need-loop-less Inv-loop μ-loop
 loop-less c =
     let arm = c .before .before .before .before .before .before .before .before .before .before in
     let decode = arm .before .before in
     let head = decode .before .before .before in
     let piece = head .before .before .before .args .piece .now in
-    let past = passes piece (head .loop .at) _ _ (sym (decode .decode .ensures) ∙ arm .decoded .given .1) in
+    let there = stands piece (head .loop .at) (sym (decode .decode .ensures) ∙ arm .decoded .given .1) in
     omega arith
 
 loop-again : tie.Need-loop-again Inv-loop μ-loop
@@ -52,14 +46,9 @@ loop-again c =
     let decode = arm .before .before in
     let head = decode .before .before .before in
     let whole = sym (decode .decode .ensures) ∙ arm .decoded .given .1 in
-    let done = settle .settle .ensures in (
-      done .kept,
-      rw (add-one (head .loop .steps))
-          (some-more (head .loop .inv .1) _ _ whole _ (done .same) _ _ (line .record-line .ensures) (omega arith)),
-    )
-
-enum-told : tie.Need-enum-told Inv-loop μ-loop
-enum-told c = search needs
+    let done = settle .settle .ensures in
+    let ran = some-more (head .loop .inv .1) _ _ whole _ (done .same) _ _ (line .record-line .ensures) (omega arith) in
+    (done .kept, rw (add-one (head .loop .steps)) ran)
 
 returns-2 : tie.Need-returns-2 Inv-loop μ-loop
 returns-2 c =
@@ -80,7 +69,7 @@ returns-4 c =
     (head .loop .inv .0, (head .loop .inv .1, at-end piece (head .loop .at) (omega arith)))
 
 pub run-piece-spec : {M : Type 1} → statement M
-run-piece-spec =
-    tie.close (tie.spec Inv-loop μ-loop loop-holds (search needs) (search needs) returns (search needs) (search needs)
-    (search needs) (λ c κs. search needs) (search needs) (search needs) (search needs) loop-less loop-again enum-told
-    (search needs) returns-2 (search needs) (search needs) returns-3 (search needs) returns-4)
+run-piece-spec = tie.close (tie.spec Inv-loop μ-loop loop-holds (search needs) (search needs)
+    (λ c. let inv = c .before .before .loop .inv in (inv .0, (inv .1, omega arith))) (search needs) (search needs) (search needs)
+    (λ c κs. search needs) (search needs) (search needs) (search needs) loop-less loop-again (λ c. search needs) (search needs) returns-2
+    (search needs) (search needs) returns-3 (search needs) returns-4)

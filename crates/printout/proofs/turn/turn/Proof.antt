@@ -16,8 +16,9 @@ long c = length-take-le (c .args .held) (c .args .buffer .now) (c .pre .1 .0)
 
 returns : tie.Need-returns
 returns c =
-    let pre = c .before .before .before .pre in (
-      pre .0,
+    let start = c .before .before .before in
+    let desk = start .pre .0 in (
+      desk,
       record {
         shows = λ ok. record { stays = ok; prints = λ more may. refl };
         because = c .if1 .taken;
@@ -29,7 +30,9 @@ returns c =
     )
 
 slice-aggregate-run-piece : tie.Need-slice-aggregate-run-piece
-slice-aggregate-run-piece c = sym (long (c .before .before .before .before))
+slice-aggregate-run-piece c =
+    let start = c .before .before .before .before in
+    sym (long start)
 
 run-piece-requires : tie.Need-run-piece-requires
 run-piece-requires c κs =
@@ -48,26 +51,20 @@ add-further c =
     let start = ran .before .before .before .before .before .before .before .before .before in
     omega (arith, ran .run-piece .ensures .1 .0 .inside, long start)
 
-enum-told : tie.Need-enum-told
-enum-told c = search needs
-
 returns-2 : tie.Need-returns-2
 returns-2 c =
     let rest = c .before .before .before .before .before .before in
     let ran = rest .before .before .before .before in
     let near = ran .before .before .before .before .before .before in
     let start = near .before .before .before in
-    let piece = ran .run-piece .ensures in (
-      piece .0,
-      turn-again (piece .1 .0) (rest .keep-rest .ensures) (start .pre .1 .0) (start .pre .1 .2) (near .if1 .left)
-          (start .args .done) (omega arith),
-    )
+    let piece = ran .run-piece .ensures in
+    let full = turn-again (piece .1 .0) (rest .keep-rest .ensures) (start .pre .1 .0) (start .pre .1 .2) (near .if1 .left) in
+    (piece .0, full (start .args .done) (omega arith))
 
 slice-aggregate-run-end : tie.Need-slice-aggregate-run-end
 slice-aggregate-run-end c =
     let rest = c .before .before .before .before .before .before .before .before in
-    let ran = rest .before .before .before .before in
-    let start = ran .before .before .before .before .before .before .before .before .before in
+    let start = rest .before .before .before .before .before .before .before .before .before .before .before .before .before in
     let kept = rest .keep-rest .ensures in
     sym (length-take-le (rest .keep-rest .result) (rest .keep-rest .last .0) (omega (arith, kept .counts, kept .room, start .pre .1 .0)))
 
@@ -82,12 +79,12 @@ returns-3 c =
     let near = ran .before .before .before .before .before .before in
     let start = near .before .before .before in
     let piece = ran .run-piece .ensures in
-    let end = ended .run-end .ensures in (
-      piece .0,
-      turn-ends (piece .1 .0) (rest .keep-rest .ensures) (start .pre .1 .0) (start .pre .1 .2) (near .if1 .left)
-          (end .put) (omega (arith, space .if2 .left)) (end .same _ (piece .0 .mail))
-          (ran .run-piece .result .stop) (start .args .done) (piece .1 .1) (sym (next .next-of .ensures) ∙ told .enum-told .given .1),
-    )
+    let end = ended .run-end .ensures in
+    let over =
+    turn-ends (piece .1 .0) (rest .keep-rest .ensures) (start .pre .1 .0) (start .pre .1 .2) (near .if1 .left)
+    (end .put) (omega (arith, space .if2 .left)) (end .same _ (piece .0 .mail))
+    (ran .run-piece .result .stop) (start .args .done) (piece .1 .1) (sym (next .next-of .ensures) ∙ told .enum-told .given .1) in
+    (piece .0, over)
 
 returns-4 : tie.Need-returns-4
 returns-4 c =
@@ -96,19 +93,16 @@ returns-4 c =
     let ran = rest .before .before .before .before in
     let near = ran .before .before .before .before .before .before in
     let start = near .before .before .before in
-    let piece = ran .run-piece .ensures in (
-      piece .0,
-      rw (next .next-of .ensures)
-          (turn-on (piece .1 .0) (rest .keep-rest .ensures) (start .pre .1 .0) (start .pre .1 .2) (near .if1 .left)
-          (ran .run-piece .result .stop) (start .args .done) (piece .1 .1)
-          (λ e.
-          let same : next .next-of .result ≡ End = next .next-of .ensures ∙ e in
-          ⊎-elim (λ k. omega arith) (λ others. ⊎-elim (λ k. omega arith) (λ k. omega arith) others) (rw same at (c .match .keys2)))),
-    )
+    let piece = ran .run-piece .ensures in
+    let on =
+    turn-on (piece .1 .0) (rest .keep-rest .ensures) (start .pre .1 .0) (start .pre .1 .2) (near .if1 .left)
+    (ran .run-piece .result .stop) (start .args .done) (piece .1 .1)
+    (λ e.
+    let same : next .next-of .result ≡ End = next .next-of .ensures ∙ e in
+    ⊎-elim (λ k. omega arith) (λ others. ⊎-elim (λ k. omega arith) (λ k. omega arith) others) (rw same at (c .match .keys2))) in
+    (piece .0, rw (next .next-of .ensures) on)
 
 pub turn-spec : {M : Type 1} → statement M
-turn-spec =
-    tie.close (tie.spec returns (search needs) slice-aggregate-run-piece run-piece-requires keep-rest-requires
-    add-further (search needs) enum-told (search needs) (search needs) (search needs) returns-2 (search needs)
-    slice-aggregate-run-end (λ c κs. search needs) (search needs) (search needs) returns-3 (search needs) (search needs)
-    returns-4)
+turn-spec = tie.close (tie.spec returns (search needs) slice-aggregate-run-piece run-piece-requires keep-rest-requires add-further
+    (search needs) (λ c. search needs) (search needs) (search needs) (search needs) returns-2 (search needs) slice-aggregate-run-end
+    (λ c κs. search needs) (search needs) (search needs) returns-3 (search needs) (search needs) returns-4)
