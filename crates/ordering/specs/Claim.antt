@@ -7,7 +7,7 @@ use mathlib.Core.Option.{Option, none, some}
 use Prim.Native.Nat.{ℕ, _<_}
 use lib.Dec.{ltb}
 use Rattle.base.specs.Lists.{select, every}
-use Rattle.transit.specs.Message.{sameRank, placeOrder}
+use Rattle.transit.specs.Message.{sameRank, placeOrder, ranks}
 use Rattle.transit.specs.declared.Message.{Message}
 use Rattle.transit.specs.declared.Rank.{Rank}
 use Rattle.transit.specs.declared.Selection.the-variants.{Between}
@@ -113,8 +113,8 @@ unread a b s = map (λ (m : Message). m .value) (placeOrder (Between a b) (messa
 abbrev pub FirstHalf : Type 0
 FirstHalf =
     (xs : List Reading) (a b : Rank) →
-    a .0 < 16 →
-    b .0 < 16 →
+    a .0 < ranks →
+    b .0 < ranks →
     taken a b (accepted fresh xs) ++ unread a b (after fresh xs) ≡ sent a b (accepted fresh xs)
 
 -- The second list.
@@ -168,10 +168,10 @@ pub record SecondList (xs : List Reading) : Type 0 where
   pub moves-unbroken : unbroken none (records (accepted fresh list)) ≡ true
   pub same-steps : fiveKinds (accepted fresh list) ≡ fiveKinds (accepted fresh xs)
   pub same-taken : (a b : Rank) → taken a b (accepted fresh list) ≡ taken a b (accepted fresh xs)
-  pub same-unread : (a b : Rank) → a .0 < 16 → b .0 < 16 → unread a b (after fresh list) ≡ unread a b (after fresh xs)
+  pub same-unread : (a b : Rank) → a .0 < ranks → b .0 < ranks → unread a b (after fresh list) ≡ unread a b (after fresh xs)
   -- "Standing, and host and number of the current end (of the last vmid for an ended rank, none for an unstarted one)": a status is all
   -- of it
-  pub same-status : (r : Rank) → r .0 < 16 → status (after fresh list) r ≡ status (after fresh xs) r
+  pub same-status : (r : Rank) → r .0 < ranks → status (after fresh list) r ≡ status (after fresh xs) r
 
 -- The second half: a list that leaves no move open has a second list.
 abbrev pub SecondHalf : Type 0

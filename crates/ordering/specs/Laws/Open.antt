@@ -5,6 +5,7 @@ use mathlib.Core.Bool.{Bool, true, false, not}
 use mathlib.Core.List.{List, [], _∷_}
 use Prim.Native.Nat.{ℕ, zero, suc}
 use lib.ListN.{getD, replicate}
+use Rattle.transit.specs.Message.{ranks}
 use Rattle.transit.specs.declared.Rank.{Rank}
 use Rattle.broker.specs.Laws.Migrating.{openAfter, migrating-step}
 use Rattle.broker.specs.Names.{isMigrating}
@@ -34,7 +35,7 @@ migrating-is-open r =
 
 -- Nobody migrates in the fresh state.
 fresh-still : (r : Rank) → isMigrating (status fresh r) ≡ false
-fresh-still r = ap (λ (p : Process). isMigrating (p .status)) (all-idle 16 (r .0))
+fresh-still r = ap (λ (p : Process). isMigrating (p .status)) (all-idle ranks (r .0))
   where
     all-idle : (n i : ℕ) → getD (replicate n idle) i idle ≡ idle
     all-idle zero i = refl

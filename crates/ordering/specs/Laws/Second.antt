@@ -8,6 +8,7 @@ use Prim.Native.Nat.{ℕ}
 use borrow.Author.Tests.{not-true}
 use lib.ListN.{getD-replicate}
 use Rattle.base.specs.Laws.Tests.{both-left, both-right}
+use Rattle.transit.specs.Message.{ranks, cells}
 use Rattle.broker.specs.Checks.{refusal}
 use Rattle.broker.specs.Laws.Alike.{settled-unless-migrating, status-alike, same-standings}
 use Rattle.broker.specs.Laws.Core.{core, coreStep, valuesBetween, unread-values}
@@ -98,9 +99,9 @@ fresh-quiet =
           record {
             processes-long = refl;
             links-long = refl;
-            migrating = λ r hr. ap (λ (p : Process). isMigrating (p .status)) (getD-replicate 16 (r .0) idle idle hr);
-            requests = λ r hr. ap (λ (p : Process). p .request) (getD-replicate 16 (r .0) idle idle hr);
-            links = λ a b ha hb. getD-replicate 256 (cell a b) apart apart (cell-below a b ha hb);
+            migrating = λ r hr. ap (λ (p : Process). isMigrating (p .status)) (getD-replicate ranks (r .0) idle idle hr);
+            requests = λ r hr. ap (λ (p : Process). p .request) (getD-replicate ranks (r .0) idle idle hr);
+            links = λ a b ha hb. getD-replicate cells (cell a b) apart apart (cell-below a b ha hb);
           };
     }
 

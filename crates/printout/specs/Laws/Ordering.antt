@@ -7,6 +7,7 @@ use Prim.Native.Nat.{ℕ, zero, suc, _<_}
 use lib.Dec.{ltb}
 use lib.ListN.{length}
 use Rattle.base.specs.Laws.Tests.{by-test}
+use Rattle.transit.specs.Message.{ranks}
 use Rattle.transit.specs.declared.Rank.{Rank}
 use Rattle.broker.specs.Record.{decode}
 use Rattle.broker.specs.State.{State, fresh}
@@ -53,7 +54,7 @@ module _ (named : Naming) where
   -- was sent, and where no move is open there is a second list
   pub record Ordered (n : ℕ) (log : List ℕ) (s : State) : Type 0 where
     pub first-half :
-        (a b : Rank) → a .0 < 16 → b .0 < 16 →
+        (a b : Rank) → a .0 < ranks → b .0 < ranks →
         let steps = accepted fresh (readings named n fresh log 0) in taken a b steps ++ unread a b s ≡ sent a b steps
     pub second-half : noMoveOpen s ≡ true → SecondList (readings named n fresh log 0)
 
