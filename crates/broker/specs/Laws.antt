@@ -19,7 +19,6 @@ pub mod Names
 pub mod Opened
 pub mod Quiet
 pub mod Ranks
-pub mod Records
 pub mod Sound
 pub mod Standings
 pub mod State

@@ -16,3 +16,4 @@ pub mod Sound
 pub mod State
 pub mod Step
 pub mod Values
+pub mod Worked

@@ -21,14 +21,21 @@ struct Public {
 
 fn public_laws(tree: &[Source]) -> Vec<Public> {
     let elsewhere: HashSet<String> = tree.iter().flat_map(cited).collect();
-    let specs = tree.iter().filter(|source| is_spec(&source.path));
-    specs
+    let lawful = tree.iter().filter(|source| has_laws(&source.path));
+    lawful
         .flat_map(|source| laws_of_file(source, &elsewhere))
         .collect()
 }
 
-fn is_spec(path: &str) -> bool {
-    path.ends_with(".antt") && path.split('/').nth(2) == Some("specs")
+/// Whether a file has laws to cite. A worked example is none: it stands for
+/// itself, and holds the definitions that it computes.
+fn has_laws(path: &str) -> bool {
+    let parts: Vec<&str> = path.split('/').collect();
+    match parts[..] {
+        ["crates", "worked", ..] | ["crates", _, "specs", "Worked", ..] => false,
+        ["crates", _, "specs", .., file] => file.ends_with(".antt"),
+        _ => false,
+    }
 }
 
 fn laws_of_file(source: &Source, elsewhere: &HashSet<String>) -> Vec<Public> {
@@ -101,7 +108,7 @@ fn every_public_law_is_cited() {
 }
 
 mod tests {
-    use super::{promised, public_laws, stale, uncited};
+    use super::{has_laws, promised, public_laws, stale, uncited};
     use crate::tree::Source;
 
     fn tree() -> [Source; 3] {
@@ -147,5 +154,20 @@ mod tests {
         ];
         assert_eq!(found, expected);
         assert_eq!(uncited(&laws, &promised).len(), 1);
+    }
+
+    #[test]
+    fn worked_examples_are_told_from_laws() {
+        for path in ["crates/a/specs/Laws/B.antt", "crates/a/specs/C.antt"] {
+            assert!(has_laws(path), "{path}");
+        }
+        for path in [
+            "crates/a/specs/Worked/B.antt",
+            "crates/worked/specs/B.antt",
+            "crates/a/proofs/f/Proof.antt",
+            "crates/a/src/lib.rt",
+        ] {
+            assert!(!has_laws(path), "{path}");
+        }
     }
 }

@@ -24,10 +24,6 @@ pub allBelow-of : (n : ℕ) (f : ℕ → Bool) → ((k : ℕ) → k < n → f k 
 allBelow-of zero f h = refl
 allBelow-of (suc n) f h = both (allBelow-of n f (λ k b. h k (omega arith))) (h n (omega arith))
 
--- A test that passes below a number and at it passes below the next.
-pub allBelow-next : (n : ℕ) (f : ℕ → Bool) → allBelow n f ≡ true → f n ≡ true → allBelow (n + 1) f ≡ true
-allBelow-next n f below here = rw add-one (both below here)
-
 -- A test that fails at a number fails below each bound past it.
 pub allBelow-fails : (n : ℕ) (f : ℕ → Bool) (k : ℕ) → k < n → f k ≡ false → allBelow n f ≡ false
 allBelow-fails n f k inside fails =

@@ -92,12 +92,9 @@ pub guarded : (a b : Bool) → ifSo a b ≡ true → a ≡ true → b ≡ true
 guarded true b h e = h
 guarded false b h e = absurd (true≢false (sym e))
 
--- where a computed test of every side, place, two sides or pair passes, what it says holds
+-- where a computed test of every side, two sides or pair passes, what it says holds
 pub tested : (p q : Side → Bool) → atSides (λ x. ifSo (p x) (q x)) ≡ true → (x : Side) → p x ≡ true → q x ≡ true
 tested p q h x = guarded (p x) (q x) (at-side (λ x. ifSo (p x) (q x)) h x)
-
-pub tested-place : (f g : Place → Bool) → every (λ p. ifSo (f p) (g p)) places ≡ true → (p : Place) → f p ≡ true → g p ≡ true
-tested-place f g h p = guarded (f p) (g p) (at-place (λ p. ifSo (f p) (g p)) h p)
 
 pub tested-two : (p q : Side → Side → Bool) → atSides (λ x. atSides (λ y. ifSo (p x y) (q x y))) ≡ true
     → (x y : Side) → p x y ≡ true → q x y ≡ true
