@@ -1,5 +1,5 @@
 -- Laws of the step that ends a run. Assumes nothing.
-use mathlib.Core.Path.{_≡_, refl}
+use mathlib.Core.Path.{_≡_}
 use mathlib.Core.List.{List, [], _∷_}
 use Prim.Native.Nat.{ℕ, _+_, _≤_, _<_}
 use native.Mathlib.Omega.{arith}
@@ -11,12 +11,10 @@ use Rattle.base.specs.Laws.Tests.{by-test, same-truth}
 use Rattle.broker.specs.Kind.{isKind, bodyLength}
 use Rattle.broker.specs.Record.{decode}
 use Rattle.broker.specs.declared.answer.Answer.the-variants.{Refused}
-use Rattle.broker.specs.declared.record.Decoded.{Decoded}
-use Rattle.broker.specs.declared.record.Decoded.the-variants.{Whole, Unknown, Cut}
 use Rattle.printout.specs.Laws.Wholes.{movedBy}
-use Rattle.printout.specs.Laws.Window.{moved, decode-dropped}
+use Rattle.printout.specs.Laws.Window.{moved-same, decode-dropped}
 use Rattle.printout.specs.Run.{Came}
-use Rattle.printout.specs.Wholes.{answeredAt, reason, reasonOf, closing, ended}
+use Rattle.printout.specs.Wholes.{answeredAt, reasonOf, closing, ended}
 
 module _ (base : ℕ) (log : List ℕ) (at : ℕ) where
   -- "It stops at the log's end without a line for it".
@@ -33,11 +31,6 @@ module _ (base : ℕ) (log : List ℕ) (at : ℕ) where
       (λ t. rw t (by-test (leb (at + 1 + bodyLength (getD log at 0)) (length log)) (λ u. rw u) (λ u. rw u)))
       (λ t. rw t))
 
-reason-moved : (k : ℕ) (d : Decoded) → reason (moved k d) ≡ reason d
-reason-moved k (Whole r next) = refl
-reason-moved k Unknown = refl
-reason-moved k Cut = refl
-
 -- The front of a log, where it is dropped, is no part of how its run ends.
 module _ (base : ℕ) (log : List ℕ) (k : ℕ) (room : k ≤ length log) where
   closing-dropped : (at : ℕ) → closing base log (k + at) ≡ closing (base + k) (drop k log) at
@@ -49,7 +42,7 @@ module _ (base : ℕ) (log : List ℕ) (k : ℕ) (room : k ≤ length log) where
       same-truth (ltb (k + at) (length log)) (ltb at (length (drop k log)))
       (λ t. lt-ltb at (length (drop k log)) (omega (arith, ltb-true (k + at) (length log) t)))
       (λ t. lt-ltb (k + at) (length log) (omega (arith, ltb-true at (length (drop k log)) t))) in
-      rw (same, decode-dropped log k room at, reason-moved k (decode (drop k log) at), place, getD-drop)
+      rw (same, decode-dropped log k room at, moved-same k (decode (drop k log) at) .1, place, getD-drop)
 
   pub ended-dropped : (c : Came) → ended base log (movedBy k c) ≡ ended (base + k) (drop k log) c
   ended-dropped c = let place : base + (k + c .at) ≡ base + k + c .at = omega arith in rw (place, closing-dropped (c .at))

@@ -39,18 +39,15 @@ ran-more {s} {piece} {base} {steps} {state} {at} i r next e =
       shown = rw (i .shown, lines-append (i .answers), append-nil);
     }
 
--- Before the first record nothing is on the page.
-pub some-none : (s : State) (piece : List ℕ) (base : ℕ) (page : List ℕ) → RanSome s piece base (length page) s 0 0 0 page
+-- Before the first record nothing is run, and nothing is on the page.
+ran-none : (s : State) (piece : List ℕ) (base : ℕ) → sound s ≡ true → Ran s piece base 0 s 0 []
 unfolding wholes
+ran-none s piece base ok = record { answers = []; came = refl; counted = refl; stays = ok; shown = refl }
+
+pub some-none : (s : State) (piece : List ℕ) (base : ℕ) (page : List ℕ) → RanSome s piece base (length page) s 0 0 0 page
 some-none s piece base page =
-    record {
-      ran = λ ok. record { answers = []; came = refl; counted = refl; stays = ok; shown = refl };
-      inside = omega arith;
-      fits = omega arith;
-      keeps = refl;
-      taken = omega arith;
-      moved = omega arith;
-    }
+    let none = ran-none s piece base in
+    record { ran = none; inside = omega arith; fits = omega arith; keeps = refl; taken = omega arith; moved = omega arith }
 
 -- A whole record more is run where the page has room for its line.
 pub some-more : {s : State} {piece : List ℕ} {base room : ℕ} {state : State} {at used steps : ℕ} {page : List ℕ} →
@@ -76,9 +73,8 @@ pub ran-on : {s : State} {piece : List ℕ} {base steps : ℕ} {state : State} {
     Ran s (piece ++ more) base (steps + steps') state' (at + at') (text ++ text')
 ran-on {s} {piece} {base} {steps} {state} {at} i more {steps'} j =
     let room : at ≤ length piece = rw (← i .came) at (run-within nameFor base piece steps s 0 (omega arith)) in
-    let long = length-append piece more in
     let first = rw (← i .came, i .counted) at (in-a-row nameFor base piece more steps' steps s 0) in
-    let later = wholes-dropped nameFor base (piece ++ more) at (omega arith) steps' state 0 in
+    let later = wholes-dropped nameFor base (piece ++ more) at (omega (arith, length-append piece more)) steps' state 0 in
     record {
       answers = i .answers ++ j .answers;
       came = sym (first ∙ rw (rw (add-zero at, drop-append-le at piece more room) at later, ← j .came));

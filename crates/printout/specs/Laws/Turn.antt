@@ -129,8 +129,7 @@ module _
             Turns s buffer held base done room state buffer' (record { held = k; base = base + at; used = end; next = End }) page'
         over done none follows why =
             turns End done end page'
-            (λ ok more may.
-            was-left ok more ∙
+            (λ ok more may. was-left ok more ∙
             rw (follows more may, left-over nameFor (base + at) state (take k buffer') none, ← says, shows put behind, append-nil))
             (near, why) (omega (arith, put .within, put .room)) (put .room ∙ ran .keeps)
 

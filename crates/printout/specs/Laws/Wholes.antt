@@ -15,7 +15,7 @@ use Rattle.broker.specs.declared.record.Decoded.{Decoded}
 use Rattle.broker.specs.declared.record.Decoded.the-variants.{Whole, Unknown, Cut}
 use Rattle.broker.specs.declared.record.Record.{Record}
 use Rattle.steps.specs.Record.{at-end}
-use Rattle.printout.specs.Laws.Window.{moved, stands, whole-stays, decode-dropped}
+use Rattle.printout.specs.Laws.Window.{moved, moved-same, stands, whole-stays, decode-dropped}
 use Rattle.printout.specs.Run.{Came, Naming, standing, behind}
 use Rattle.printout.specs.Wholes.{isWhole, answeredAt, settled, onRead, wholes, allWholes}
 
@@ -112,11 +112,6 @@ module _ (named : Naming) (base : ℕ) (piece more : List ℕ) where
 abbrev pub movedBy : ℕ → Came → Came
 movedBy k c = record { state = c .state; at = k + c .at; answers = c .answers }
 
-moved-whole : (k : ℕ) (d : Decoded) → isWhole (moved k d) ≡ isWhole d
-moved-whole k (Whole r next) = refl
-moved-whole k Unknown = refl
-moved-whole k Cut = refl
-
 -- The front of a log, where it is dropped, moves what the other records come to, and no more.
 module _ (named : Naming) (base : ℕ) (log : List ℕ) (k : ℕ) (room : k ≤ length log) where
   answered-dropped : (at : ℕ) (a : Answer) → answeredAt base log (k + at) a ≡ answeredAt (base + k) (drop k log) at a
@@ -130,7 +125,7 @@ module _ (named : Naming) (base : ℕ) (log : List ℕ) (k : ℕ) (room : k ≤ 
       (λ s at. refl)
       (λ n s at none.
       none-run named base log (suc n) s (k + at)
-      (ap isWhole (decode-dropped log k room at) ∙ moved-whole k (decode (drop k log) at) ∙ none))
+      (ap isWhole (decode-dropped log k room at) ∙ moved-same k (decode (drop k log) at) .0 ∙ none))
       (λ n s at r next e c later.
       one-first named base log n s (k + at) (decode-dropped log k room at ∙ ap (moved k) e) ∙
       rw (answered-dropped at (settled named s r .answer)) (ap (ahead named (base + k) (drop k log) s at r) later))

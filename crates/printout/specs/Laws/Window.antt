@@ -17,6 +17,7 @@ use Rattle.broker.specs.declared.record.Decoded.{Decoded}
 use Rattle.broker.specs.declared.record.Decoded.the-variants.{Whole, Unknown, Cut}
 use Rattle.broker.specs.declared.record.Record.{Record}
 use Rattle.steps.specs.Record.{whole, no-kind, cut-short, at-end}
+use Rattle.printout.specs.Wholes.{isWhole, reason}
 
 -- what stands at a position, with the tests that say so
 pub data Seen (log : List ℕ) (at : ℕ) : Decoded → Type 0 where
@@ -87,6 +88,12 @@ abbrev pub moved : ℕ → Decoded → Decoded
 moved k (Whole r next) = Whole r (k + next)
 moved k Unknown = Unknown
 moved k Cut = Cut
+
+-- Whether it is a whole record, and why a run ends there, is the same.
+pub moved-same : (k : ℕ) (d : Decoded) → (isWhole (moved k d) ≡ isWhole d) × (reason (moved k d) ≡ reason d)
+moved-same k (Whole r next) = (refl, refl)
+moved-same k Unknown = (refl, refl)
+moved-same k Cut = (refl, refl)
 
 -- A part of a log, whose bytes stand there from a position on: what stands in it stands in the log, so many bytes further on; but what
 -- is cut only where the log has no more than the part.
