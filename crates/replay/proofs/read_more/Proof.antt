@@ -10,9 +10,7 @@ use Rattle.replay.proofs.read_more.Statement.{statement}
 use Rattle.replay.proofs.read_more.Tie as tie
 
 -- What is before the part that is lent is as it was.
-kept :
-    (held : ℕ) (buffer bytes : List ℕ) →
-    held ≤ length buffer →
+kept : (held : ℕ) (buffer bytes : List ℕ) → held ≤ length buffer →
     take held (putMid held (length buffer - held) buffer bytes) ≡ take held buffer
 kept held buffer bytes h = take-put held (length buffer - held) buffer bytes h
 
@@ -20,23 +18,16 @@ returns : tie.Need-returns
 returns c =
     let read = c .before .before .before in
     let start = read .before .before .before in
-    record {
-      fills = tt;
-      long = search needs;
-      same = kept (start .args .held) (start .args .buffer .now) (read .read .last .1 .0) (start .pre);
-    }
+    let same = kept (start .args .held) (start .args .buffer .now) (read .read .last .1 .0) (start .pre) in
+    record { fills = tt; long = search needs; same = same }
 
 returns-2 : tie.Need-returns-2
 returns-2 c =
     let read = c .before .before .before .before .before .before in
     let start = read .before .before .before in
-    record {
-      fills = (omega arith, omega arith);
-      long = search needs;
-      same = kept (start .args .held) (start .args .buffer .now) (read .read .last .1 .0) (start .pre);
-    }
+    let same = kept (start .args .held) (start .args .buffer .now) (read .read .last .1 .0) (start .pre) in
+    record { fills = (omega arith, omega arith); long = search needs; same = same }
 
 pub read-more-spec : {M : Type 1} → statement M
-read-more-spec =
-    tie.close (tie.spec (search needs) (search needs) (search needs) (search needs) (search needs) returns
-    (search needs) (search needs) (search needs) (search needs) (search needs) (search needs) returns-2)
+read-more-spec = tie.close (tie.spec (search needs) (search needs) (search needs) (search needs) (search needs) returns (search needs)
+    (search needs) (search needs) (search needs) (search needs) (search needs) returns-2)
