@@ -1,0 +1,2 @@
+-- What the walks of a step of a lent state share.
+pub mod Values
