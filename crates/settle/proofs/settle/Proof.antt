@@ -50,4 +50,4 @@ returns-2 c =
 
 pub settle-spec : {M : Type 1} → statement M
 settle-spec =
-    tie.close (tie.spec (search needs) (search needs) enum-told apply-requires returns returns-2)
+    tie.close (tie.spec (λ c κs. search needs) (λ c. search needs) enum-told apply-requires returns returns-2)

@@ -7,33 +7,15 @@ use Rattle.steps.proofs.decode.record_at.Tie as tie
 returns : tie.Need-returns
 returns c =
     let taken = c .before .before .before .before .before in
-    let second = taken .before in
-    let args = second .before .before .before .args in
-    rw (
-      send-is-record (args .kind) (args .log .now) (args .at) (taken .if1 .taken),
-      c .value-of .ensures,
-      c .before .byte-at6 .ensures,
-      c .before .before .byte-at5 .ensures,
-      c .before .before .before .byte-at4 .ensures,
-      c .before .before .before .before .byte-at3 .ensures,
-      second .byte-at2 .ensures,
-      second .before .byte-at .ensures,
-    )
+    let args = taken .before .before .before .before .args in
+    cc (send-is-record (args .kind) (args .log .now) (args .at) (taken .if1 .taken))
 
 returns-2 : tie.Need-returns-2
 returns-2 c =
-    let left = c .before in
-    let second = left .before in
-    let args = second .before .before .before .args in
-    rw (
-      short-is-record (args .kind) (args .log .now) (args .at) (left .if1 .left),
-      c .short-record .ensures,
-      second .byte-at2 .ensures,
-      second .before .byte-at .ensures,
-    )
+    let args = c .before .before .before .before .before .args in
+    cc (short-is-record (args .kind) (args .log .now) (args .at) (c .before .if1 .left))
 
 pub record-at-spec : {M : Type 1} → statement M
 record-at-spec =
-    tie.close (tie.spec (search needs) (search needs) (search needs) (search needs) (search needs) (search needs)
-    (search needs) (search needs) (search needs) (search needs) (search needs) (search needs) returns (search needs)
-    returns-2)
+    tie.close (tie.spec (search needs) (search needs) (search needs) (search needs) (search needs) (search needs) (search needs)
+    (search needs) (search needs) (search needs) (search needs) (search needs) returns (search needs) returns-2)

@@ -5,7 +5,6 @@ use Prim.Native.Nat.{ℕ}
 use native.Mathlib.Omega.{arith}
 use borrow.Author.Needs.{needs}
 use borrow.Author.Tests.{not-true, not-false}
-use Rattle.transit.proofs.load.load.Reads as load-load-reads′
 use Rattle.broker.specs.Laws.Sound.{facts}
 use Rattle.broker.specs.Sound.{sound}
 use Rattle.broker.specs.State.{view}

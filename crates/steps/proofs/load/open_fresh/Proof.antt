@@ -1,6 +1,5 @@
 -- `steps::load::open_fresh` meets its contract: no message, and the fresh roster. Assumes nothing.
 use borrow.Author.Needs.{needs}
-use Rattle.transit.proofs.load.clear.Reads as load-clear-reads′
 use Rattle.steps.proofs.load.open_fresh.Statement.{statement}
 use Rattle.steps.proofs.load.open_fresh.Tie as tie
 

@@ -1,7 +1,6 @@
 -- `steps::load::unload` meets its contract: the ranks' part, and the messages beside it. Assumes nothing.
 use mathlib.Core.Path.{ap, _∙_}
 use borrow.Author.Needs.{needs}
-use Rattle.transit.proofs.load.unload.Reads as load-unload-reads′
 use Rattle.transit.specs.Unread.{Unread, unreadOf}
 use Rattle.broker.specs.State.{State, withUnread}
 use Rattle.roster.specs.Roster.{ranksOf}
