@@ -1,117 +1,118 @@
-// A state with one of its parts changed.
+// The state that is being built, with one of its parts changed.
 ghost use Prim.Native.Nat.{_<_};
-use broker::link::Backlog;
-use broker::link::Connection;
-use broker::link::Link;
-use broker::process::Process;
-use broker::process::Request;
-use broker::process::Status;
+ghost use Rattle.transit.specs.Message.{ranks, cells};
+use crate::number::numbers_in;
+use crate::part::link_after;
+use crate::part::message;
+use crate::part::process_after;
+use crate::part::vmid;
+use crate::word::Word;
+use crate::word::word_of;
 use broker::process::Vmid;
 use broker::state::Broker;
+use libc::STDOUT_FILENO;
 use transit::Message;
-use transit::Place;
-use transit::Rank;
+use transit::Transit;
 
-pub fn with_status(b: Broker, r: usize, status: Status) -> Broker
-    requires { ⌜ r < 16 ⌝ }
+// The place of a rank among sixteen. The list names no other where a state has a place for each.
+fn place_of(a: u64) -> usize
+    ensures { λ r. ⌜ r < ranks ⌝ }
 {
-    let mut next = b;
-    let process = next.processes[r];
-    let request = process.request;
-    next.processes[r] = Process {
-        status: status,
-        request: request,
-    };
+    (a % 16) as usize
+}
+
+// The place of what a rank has towards another.
+fn cell(a: u64, b: u64) -> usize
+    ensures { λ r. ⌜ r < cells ⌝ }
+{
+    16 * place_of(a) + place_of(b)
+}
+
+fn with_process(broker: Broker, word: Word, n: [u64; 5]) -> Broker {
+    let mut next = broker;
+    let at = place_of(n[0]);
+    let process = next.processes[at];
+    next.processes[at] = process_after(process, word, n);
     next
 }
 
-pub fn with_request(b: Broker, r: usize, request: Request) -> Broker
-    requires { ⌜ r < 16 ⌝ }
-{
-    let mut next = b;
-    let process = next.processes[r];
-    let status = process.status;
-    next.processes[r] = Process {
-        status: status,
-        request: request,
-    };
+fn with_link(broker: Broker, word: Word, n: [u64; 5]) -> Broker {
+    let mut next = broker;
+    let at = cell(n[0], n[1]);
+    let link = next.links[at];
+    next.links[at] = link_after(link, word);
     next
 }
 
-pub fn with_location(b: Broker, of: usize, about: usize, v: Vmid) -> Broker
-    requires { ⌜ of < 16 ⌝ }
-    requires about_rank { ⌜ about < 16 ⌝ }
-{
-    let mut next = b;
-    next.locations[16 * of + about] = v;
+fn with_entry(broker: Broker, at: usize, v: Vmid) -> Broker {
+    let mut next = broker;
+    if at < 256 {
+        next.locations[at] = v;
+    }
     next
 }
 
-pub fn with_connection(b: Broker, from: usize, to: usize, connection: Connection) -> Broker
-    requires { ⌜ from < 16 ⌝ }
-    requires to_rank { ⌜ to < 16 ⌝ }
-{
-    let mut next = b;
-    let link = next.links[16 * from + to];
-    let backlog = link.backlog;
-    next.links[16 * from + to] = Link {
-        connection: connection,
-        backlog: backlog,
-    };
+fn with_entries(broker: Broker, b: u64, v: Vmid) -> Broker {
+    let mut next = broker;
+    for a in 0..16u64 {
+        next = with_entry(next, cell(a, b), v);
+    }
     next
 }
 
-pub fn with_backlog(b: Broker, of: usize, from: usize, backlog: Backlog) -> Broker
-    requires { ⌜ of < 16 ⌝ }
-    requires from_rank { ⌜ from < 16 ⌝ }
-{
-    let mut next = b;
-    let link = next.links[16 * of + from];
-    let connection = link.connection;
-    next.links[16 * of + from] = Link {
-        connection: connection,
-        backlog: backlog,
-    };
+fn with_drawn(broker: Broker, host: u64, numbers: u64) -> Broker {
+    let mut next = broker;
+    let at = (host % 8) as usize;
+    next.drawn[at] = (numbers % 65536) as u16;
     next
 }
 
-pub fn with_message(b: Broker, slot: usize, m: Message) -> Broker
-    requires { ⌜ slot < 1024 ⌝ }
-{
-    let mut t = b.transit;
-    t.messages[slot] = m;
-    let mut next = b;
-    next.transit = t;
+// Of more messages than there are slots the last are only counted.
+fn appended(transit: Transit, m: Message) -> Transit {
+    let mut next = transit;
+    let count = transit.count;
+    if count < Transit::LIMIT {
+        next.messages[count] = m;
+    }
+    if count < 65535 {
+        next.count = count + 1;
+    }
     next
 }
 
-pub fn with_place(b: Broker, slot: usize, place: Place) -> Broker
-    requires { ⌜ slot < 1024 ⌝ }
-{
-    let t = b.transit;
-    let m = t.messages[slot];
-    let sender = m.sender;
-    let receiver = m.receiver;
-    let changed = Message {
-        sender: sender,
-        receiver: receiver,
-        value: m.value,
-        place: place,
-    };
-    with_message(b, slot, changed)
+fn with_messages(broker: Broker, count: u64, m: Message) -> Broker {
+    let mut transit = broker.transit;
+    for _ in 0..count {
+        transit = appended(transit, m);
+    }
+    let mut next = broker;
+    next.transit = transit;
+    next
 }
 
-pub fn with_ends(b: Broker, slot: usize, sender: u8, receiver: u8) -> Broker
-    requires { ⌜ slot < 1024 ⌝ }
-{
-    let t = b.transit;
-    let m = t.messages[slot];
-    let place = m.place;
-    let changed = Message {
-        sender: Rank(sender),
-        receiver: Rank(receiver),
-        value: m.value,
-        place: place,
-    };
-    with_message(b, slot, changed)
+// A line that is none of the list's is printed, so that the output differs.
+fn complain(line: &[u8]) {
+    io::write_all(STDOUT_FILENO, line);
+    io::write_all(STDOUT_FILENO, b"?\n");
+}
+
+// The state after a line of the list.
+pub fn changed(broker: Broker, line: &[u8]) -> Broker {
+    let n = numbers_in(line);
+    let word = word_of(line);
+    match word {
+        Word::Fresh => Broker::fresh(),
+        Word::Running | Word::Moving | Word::Ended | Word::Call => with_process(broker, word, n),
+        Word::Plain | Word::Notice | Word::Unheeded | Word::Marked => with_link(broker, word, n),
+        Word::Table => with_entry(broker, cell(n[0], n[1]), vmid(n[2], n[3])),
+        Word::Tables => with_entries(broker, n[0], vmid(n[1], n[2])),
+        Word::Drawn => with_drawn(broker, n[0], n[1]),
+        Word::Message => with_messages(broker, 1, message(n[0], n[1], n[2], n[3])),
+        Word::Messages => with_messages(broker, n[0], message(n[1], n[2], n[3], n[4])),
+        Word::Remark => broker,
+        _ => {
+            complain(line);
+            broker
+        }
+    }
 }

@@ -1,25 +1,62 @@
-// Steps one record in a sound state, and then in states that each break a sentence of paper 01, "Sound states".
-// A line is a name, the answer's number, the next position, and whether the state that came back is the one lent.
+// Builds the states that standard input lists and hands each to a step. For each it prints a line: its name, and whether the step finds it
+// sound. The head of the list, the file `stdin`, explains its lines.
 mod change;
-mod lines;
-mod messages;
-mod names;
+mod number;
+mod part;
 mod same;
-mod scene;
 mod tell;
+mod word;
+
+use broker::state::Broker;
+use change::changed;
+use libc::STDIN_FILENO;
+use tell::tell;
+use word::Word;
+use word::word_of;
+
+// Whether a line names the state that the lines before it make.
+fn is_name(line: &[u8]) -> bool {
+    match word_of(line) {
+        Word::Sound => true,
+        Word::Unsound => true,
+        _ => false,
+    }
+}
+
+// What stands behind the first word.
+fn name_in(line: &[u8]) -> &[u8] {
+    let end = bytes::scan::find(line, 0, line.len(), b' ');
+    if end < line.len() {
+        return &line[end + 1..];
+    }
+    line
+}
+
+// Every line of the list. A state starts at the first one, and that at a fresh one.
+fn read_list(text: &[u8]) {
+    let mut start = Broker::fresh();
+    let mut state = start;
+    let mut is_first = true;
+    let mut at: usize = 0;
+    while at < text.len() {
+        let end = bytes::scan::find(text, at, text.len(), b'\n');
+        let line = &text[at..end];
+        if is_name(line) {
+            tell(name_in(line), state);
+            if is_first {
+                start = state;
+            }
+            is_first = false;
+            state = start;
+        } else {
+            state = changed(state, line);
+        }
+        at = end + 1;
+    }
+}
 
 fn main() {
-    let sound = scene::built();
-    tell::tell(b"sound", sound);
-    names::processes(sound);
-    names::tables(sound);
-    names::calls(sound);
-    names::shared(sound);
-    lines::with_itself(sound);
-    lines::connections(sound);
-    lines::awaits(sound);
-    lines::calls(sound);
-    messages::names(sound);
-    messages::counts(sound);
-    messages::places(sound);
+    let mut buffer = io::large_buffer();
+    let size = io::read_full(STDIN_FILENO, &mut buffer);
+    read_list(&buffer[..size]);
 }

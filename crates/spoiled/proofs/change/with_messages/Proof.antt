@@ -1,0 +1,16 @@
+-- `spoiled::change::with_messages` is safe and ends. The loop runs once for each message. Assumes nothing.
+use Prim.Native.Nat.{_≤_, _-_}
+use borrow.Author.Needs.{needs}
+use Rattle.spoiled.proofs.change.with_messages.Statement.{statement}
+use Rattle.spoiled.proofs.change.with_messages.Tie as tie
+
+abbrev Inv-loop : tie.InvT-loop
+Inv-loop broker count m transit₀ counter₀ transit counter = counter ≤ count
+
+abbrev μ-loop : tie.MeasureT-loop
+μ-loop broker count m transit₀ counter₀ transit counter = count - counter
+
+pub with-messages-spec : {M : Type 1} → statement M
+with-messages-spec =
+    tie.close
+    (tie.spec Inv-loop μ-loop (search needs) (search needs) (search needs) (search needs) (search needs) (search needs))

@@ -1,0 +1,84 @@
+// The first word of a line.
+
+pub enum Word {
+    Fresh,
+    Running,
+    Moving,
+    Ended,
+    Drawn,
+    Table,
+    Tables,
+    Call,
+    Plain,
+    Notice,
+    Unheeded,
+    Marked,
+    Message,
+    Messages,
+    Sound,
+    Unsound,
+    // An empty line, and one that only the reader reads.
+    Remark,
+    // None of these.
+    Unknown,
+}
+
+// The byte at a position, and a space past the end.
+fn byte_at(text: &[u8], at: usize) -> u8 {
+    if at < text.len() { text[at] } else { b' ' }
+}
+
+// Whether a line starts with the word that has a number. Each word takes nine bytes here, with the space that ends it.
+fn starts_with(text: &[u8], number: usize) -> bool {
+    let words =
+        b"fresh    running  moving   ended    drawn    table    tables   call     plain    notice   unheeded marked   message  messages sound    unsound  ";
+    for i in 0..9usize {
+        let letter = byte_at(words, 9 * (number % 16) + i);
+        if letter != byte_at(text, i) {
+            return false;
+        }
+        if letter == b' ' {
+            return true;
+        }
+    }
+    false
+}
+
+// The number of the word that a line starts with, and 16 where it is none of them.
+fn number_of(text: &[u8]) -> usize {
+    for number in 0..16usize {
+        if starts_with(text, number) {
+            return number;
+        }
+    }
+    16
+}
+
+pub fn word_of(text: &[u8]) -> Word {
+    if text.len() == 0 {
+        return Word::Remark;
+    }
+    if text[0] == b'#' {
+        return Word::Remark;
+    }
+    let number = number_of(text);
+    match number {
+        0 => Word::Fresh,
+        1 => Word::Running,
+        2 => Word::Moving,
+        3 => Word::Ended,
+        4 => Word::Drawn,
+        5 => Word::Table,
+        6 => Word::Tables,
+        7 => Word::Call,
+        8 => Word::Plain,
+        9 => Word::Notice,
+        10 => Word::Unheeded,
+        11 => Word::Marked,
+        12 => Word::Message,
+        13 => Word::Messages,
+        14 => Word::Sound,
+        15 => Word::Unsound,
+        _ => Word::Unknown,
+    }
+}

@@ -1,0 +1,7 @@
+-- The states of the list that `crates/spoiled` reads, and of each the theorem that it is sound or unsound.
+pub mod Words
+pub mod Unsound
+pub mod Whole
+pub mod Names
+pub mod Pairs
+pub mod Messages

@@ -1,0 +1,84 @@
+//! The list of sound and unsound states, `crates/spoiled/stdin`: the second
+//! engine answers every state of it, and the theorems of `crates/worked` and
+//! the expected output of the program `spoiled` are written from it.
+
+mod built;
+mod list;
+mod theorems;
+
+use engine::{broken_clauses, is_sound, step, Clause, Outcome, Refusal};
+use list::{states, ROOT};
+use std::collections::BTreeSet;
+
+#[test]
+fn the_engine_answers_every_state_as_listed() {
+    let states = states();
+    for listed in &states {
+        let state = built::snapshot(listed, &states[0]);
+        assert_eq!(is_sound(&state), listed.sound, "{}", listed.name);
+        let refusal = if listed.sound {
+            Refusal::CutShort
+        } else {
+            Refusal::UnsoundState
+        };
+        let refused = Outcome {
+            answer: Err(refusal),
+            next: 0,
+        };
+        let mut lent = state.clone();
+        assert_eq!(step(&mut lent, &[], 0), refused, "{}", listed.name);
+        assert_eq!(lent, state, "{}", listed.name);
+    }
+}
+
+/// Place 4 is the one thing unsound that the state of the program cannot hold.
+#[test]
+fn every_clause_is_broken_alone() {
+    let states = states();
+    let mut alone: BTreeSet<Clause> = states
+        .iter()
+        .map(|listed| broken_clauses(&built::snapshot(listed, &states[0])))
+        .filter(|broken| broken.len() == 1)
+        .flatten()
+        .collect();
+    alone.insert(Clause::PlacesInRange);
+    assert_eq!(alone, Clause::all().collect());
+}
+
+#[test]
+fn no_two_states_are_the_same() {
+    let states = states();
+    for (index, listed) in states.iter().enumerate() {
+        let state = built::snapshot(listed, &states[0]);
+        for earlier in &states[..index] {
+            assert_ne!(listed.name, earlier.name);
+            assert!(
+                state != built::snapshot(earlier, &states[0]),
+                "{} is {}",
+                listed.name,
+                earlier.name
+            );
+        }
+    }
+}
+
+/// What is written from the list stands as it was written; with the variable
+/// `WRITE_STATES` set it is written anew.
+#[test]
+fn what_is_written_from_the_list_is_current() {
+    let states = states();
+    let printed: String = states
+        .iter()
+        .map(|listed| format!("{} {}\n", listed.name, listed.verdict()))
+        .collect();
+    let mut files = theorems::files(&states);
+    files.push(("crates/spoiled/stdout".to_string(), printed));
+    for (file, text) in files {
+        let path = format!("{ROOT}/{file}");
+        if std::env::var_os("WRITE_STATES").is_some() {
+            std::fs::write(&path, &text).unwrap();
+        }
+        let stored = std::fs::read_to_string(&path).unwrap();
+        assert!(stored == text, "{file} is not what the list says");
+    }
+}
