@@ -28,12 +28,22 @@ fn byte_at(text: &[u8], at: usize) -> u8 {
     if at < text.len() { text[at] } else { b' ' }
 }
 
-// Whether a line starts with the word that has a number. Each word takes nine bytes here, with the space that ends it.
+// The letter of a word at a position. Each word takes nine bytes here, with the space that ends it.
+fn letter_of(number: usize, at: usize) -> u8 {
+    let first = b"fresh    running  moving   ended    drawn    table    tables   call     ";
+    let second = b"plain    notice   unheeded marked   message  messages sound    unsound  ";
+    let within = 9 * (number % 8) + at % 9;
+    if number < 8 {
+        byte_at(first, within)
+    } else {
+        byte_at(second, within)
+    }
+}
+
+// Whether a line starts with the word that has a number.
 fn starts_with(text: &[u8], number: usize) -> bool {
-    let words =
-        b"fresh    running  moving   ended    drawn    table    tables   call     plain    notice   unheeded marked   message  messages sound    unsound  ";
     for i in 0..9usize {
-        let letter = byte_at(words, 9 * (number % 16) + i);
+        let letter = letter_of(number, i);
         if letter != byte_at(text, i) {
             return false;
         }

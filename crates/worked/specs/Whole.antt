@@ -7,7 +7,22 @@ use Rattle.broker.specs.Laws.Opened.{openedSound}
 use Rattle.broker.specs.Sound.{sound}
 use Rattle.broker.specs.State as Desk
 use Rattle.broker.specs.State.{State}
-use Rattle.worked.specs.Words.{changed, fresh, running, moving, ended, drawn, table, tables, call, plain, notice, unheeded, marked, message}
+use Rattle.worked.specs.Words.{
+  changed,
+  fresh,
+  running,
+  moving,
+  ended,
+  drawn,
+  table,
+  tables,
+  call,
+  plain,
+  notice,
+  unheeded,
+  marked,
+  message,
+}
 
 -- "A state is sound when all of these hold." Every standing, line, await and place is here.
 abbrev pub everything : State

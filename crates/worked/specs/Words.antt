@@ -6,7 +6,6 @@ use lib.ListN.{getD, set, replicate}
 use Rattle.base.specs.Below.{eachBelow}
 use Rattle.transit.specs.Message.{ranks, rank}
 use Rattle.transit.specs.Unread.{counted}
-use Rattle.transit.specs.declared.Message.{Message}
 use Rattle.transit.specs.declared.Place.{Place}
 use Rattle.transit.specs.declared.Place.the-variants.{SourceList, SourceChannel, EndList, Channel}
 use Rattle.broker.specs.Names.{vmid}

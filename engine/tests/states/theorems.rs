@@ -74,10 +74,20 @@ fn imports(group: &[Listed], first: &Listed) -> Vec<String> {
         let uses = |change: &String| change.split(' ').next() == Some(word);
         group.iter().any(|listed| listed.changes.iter().any(uses))
     };
-    let words: Vec<&str> = WORDS.iter().filter(used).copied().collect();
-    let words = words.join(", ");
-    imports.push(format!("Rattle.worked.specs.Words.{{changed, {words}}}"));
+    let words = WORDS.iter().filter(used).copied();
+    let words: Vec<&str> = ["changed"].into_iter().chain(words).collect();
+    imports.push(named("Rattle.worked.specs.Words", &words));
     imports
+}
+
+/// An import of names on one line, or on a line each where that is too long.
+fn named(module: &str, names: &[&str]) -> String {
+    let line = format!("{module}.{{{}}}", names.join(", "));
+    if "use ".len() + line.chars().count() <= WIDTH {
+        line
+    } else {
+        format!("{module}.{{\n  {},\n}}", names.join(",\n  "))
+    }
 }
 
 /// The changes in turn, as many to a line as it holds.

@@ -5,13 +5,13 @@ use Rattle.spoiled.proofs.word.starts_with.Statement.{statement}
 use Rattle.spoiled.proofs.word.starts_with.Tie as tie
 
 abbrev Inv-loop : tie.InvT-loop
-Inv-loop text number words i₀ i = i ≤ 9
+Inv-loop text number i₀ i = i ≤ 9
 
 abbrev μ-loop : tie.MeasureT-loop
-μ-loop text number words i₀ i = 9 - i
+μ-loop text number i₀ i = 9 - i
 
 pub starts-with-spec : {M : Type 1} → statement M
 starts-with-spec =
     tie.close
     (tie.spec Inv-loop μ-loop (search needs) (search needs) (search needs) (search needs) (search needs) (search needs) (search needs)
-    (search needs) (search needs) (search needs) (search needs))
+    (search needs) (search needs))
