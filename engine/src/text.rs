@@ -10,6 +10,12 @@ use std::fmt::{self, Write};
 /// The word of a line that gives bytes as they are.
 const BYTES: &str = "bytes";
 
+/// What some editors put before a text.
+const BYTE_ORDER_MARK: char = '\u{FEFF}';
+
+/// How many characters of a wrong word are shown.
+const LONGEST_SHOWN: usize = 80;
+
 impl Kind {
     /// The word for a record of this kind.
     pub fn word(self) -> &'static str {
@@ -90,7 +96,7 @@ impl Field {
         let (length, highest) = self.extent();
         let number = read_number(word).filter(|&number| number <= highest);
         let number = number.ok_or_else(|| {
-            let (sort, word) = (self.sort(), word.escape_debug());
+            let (sort, word) = (self.sort(), shown(word));
             format!("{sort} '{word}' is not a number from 0 to {highest}")
         })?;
         log.extend_from_slice(&number.to_le_bytes()[..length]);
@@ -115,16 +121,38 @@ impl fmt::Display for TextError {
 
 impl std::error::Error for TextError {}
 
-/// The log of a text, or its first line that is none of the allowed ones.
-pub fn encode(text: &str) -> Result<Vec<u8>, TextError> {
+/// How many wrong lines are told at once; what follows them is not read.
+pub const MOST_ERRORS: usize = 10;
+
+/// The log of a text, or its first lines that are none of the allowed ones. A
+/// byte-order mark before the first line is passed over.
+pub fn encode(text: &str) -> Result<Vec<u8>, Vec<TextError>> {
+    let text = text.strip_prefix(BYTE_ORDER_MARK).unwrap_or(text);
     let mut log = Vec::new();
-    for (index, line) in text.lines().enumerate() {
-        append_line(line, &mut log).map_err(|problem| TextError {
+    let wrong = text.lines().enumerate().filter_map(|(index, line)| {
+        let problem = append_line(line, &mut log).err()?;
+        Some(TextError {
             line: index + 1,
             problem,
-        })?;
+        })
+    });
+    let errors: Vec<TextError> = wrong.take(MOST_ERRORS).collect();
+    if errors.is_empty() {
+        Ok(log)
+    } else {
+        Err(errors)
     }
-    Ok(log)
+}
+
+/// A word as it is shown in an error: what can't be seen is written out, and a
+/// long word is cut.
+fn shown(word: &str) -> String {
+    let mut visible = word.escape_debug();
+    let mut start: String = visible.by_ref().take(LONGEST_SHOWN).collect();
+    if visible.next().is_some() {
+        start.push_str("..");
+    }
+    start
 }
 
 fn append_line(line: &str, log: &mut Vec<u8>) -> Result<(), String> {
@@ -147,7 +175,7 @@ fn append_record(kind: Kind, words: &[&str], log: &mut Vec<u8>) -> Result<(), St
         return Err(needs(kind));
     }
     if let Some(extra) = words.get(fields.len()) {
-        let extra = extra.escape_debug();
+        let extra = shown(extra);
         return Err(format!("'{extra}' is too much; {}", needs(kind)));
     }
     log.push(kind as u8);
@@ -163,7 +191,7 @@ fn append_bytes(words: &[&str], log: &mut Vec<u8>) -> Result<(), String> {
         let digits = word.strip_prefix("0x").unwrap_or(word);
         let byte = read_digits(digits, 16).and_then(|number| u8::try_from(number).ok());
         log.push(byte.ok_or_else(|| {
-            let word = word.escape_debug();
+            let word = shown(word);
             format!("byte '{word}' is not a hexadecimal number from 0 to ff")
         })?);
     }
@@ -172,7 +200,7 @@ fn append_bytes(words: &[&str], log: &mut Vec<u8>) -> Result<(), String> {
 
 fn unknown_word(word: &str) -> String {
     let known = Kind::ALL.map(Kind::word).join(", ");
-    let word = word.escape_debug();
+    let word = shown(word);
     format!("'{word}' is no record kind; one of {known}, {BYTES}")
 }
 

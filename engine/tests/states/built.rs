@@ -60,8 +60,14 @@ fn change(state: &mut Snapshot, line: &str) {
 pub fn snapshot(listed: &Listed, first: &Listed) -> Snapshot {
     let mut state = Snapshot::fresh();
     if listed.name != first.name {
-        first.changes.iter().for_each(|line| change(&mut state, line));
+        first
+            .changes
+            .iter()
+            .for_each(|line| change(&mut state, line));
     }
-    listed.changes.iter().for_each(|line| change(&mut state, line));
+    listed
+        .changes
+        .iter()
+        .for_each(|line| change(&mut state, line));
     state
 }

@@ -64,7 +64,9 @@ fn imports(group: &[Listed], first: &Listed) -> Vec<String> {
     imports.push("Rattle.broker.specs.State.{State}".to_string());
     if unsound {
         let law = section.to_lowercase();
-        imports.push(format!("Rattle.worked.specs.Unsound.{{{law}-unsound}}"));
+        imports.push(format!(
+            "Rattle.worked.specs.Unsound.{{{law}-unsound}}"
+        ));
     }
     if !starts {
         let (section, name) = (&first.section, &first.name);

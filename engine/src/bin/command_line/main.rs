@@ -1,0 +1,67 @@
+//! The command line of `./run`, which passes on the repository's root and its
+//! own arguments. The proved program makes every run; here it is built where
+//! it is missing or old, given its input, and its lines are passed on, told in
+//! words or drawn.
+
+mod failure;
+mod input;
+mod options;
+mod proved;
+mod replay;
+mod running;
+mod steps;
+mod version;
+mod words;
+
+use failure::Failure;
+use input::Input;
+use options::{Request, USAGE};
+use proved::proved_program;
+use std::env;
+use std::ffi::OsString;
+use std::io::{self, Write};
+use std::path::Path;
+use std::process::ExitCode;
+
+fn main() -> ExitCode {
+    let arguments: Vec<OsString> = env::args_os().skip(1).collect();
+    let served = match arguments.split_first() {
+        Some((root, asked)) => serve(Path::new(root), asked),
+        None => Err(Failure::Usage(
+            "the repository's root is missing".to_owned(),
+        )),
+    };
+    match served {
+        Ok(()) => ExitCode::SUCCESS,
+        Err(failure) => failure.told(),
+    }
+}
+
+fn serve(root: &Path, asked: &[OsString]) -> Result<(), Failure> {
+    match options::parse(asked)? {
+        Request::Help => print(USAGE),
+        Request::Version => print(&version::told(root)),
+        Request::Replay(source) => {
+            let input = Input::open(&source, root)?;
+            if input.looks_like_text() {
+                let name = input.name();
+                let hint = format!("{name} looks like a text log, which ./run --text replays");
+                // The run says the rest: its first line has refusal 2.
+                let _ = writeln!(io::stderr(), "{hint}");
+            }
+            replay::replay(&proved_program(root)?, input.as_it_is())
+        }
+        Request::Text(source) => {
+            let log = Input::open(&source, root)?.as_text()?;
+            replay::replay(&proved_program(root)?, log)
+        }
+        Request::Words(source) => {
+            let log = Input::open(&source, root)?.as_either()?;
+            words::tell(running::start(&proved_program(root)?, log)?)
+        }
+    }
+}
+
+fn print(text: &str) -> Result<(), Failure> {
+    Ok(engine::standard::plain_file(io::stdout())?.write_all(text.as_bytes())?)
+}

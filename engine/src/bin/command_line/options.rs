@@ -1,0 +1,89 @@
+//! What a command line asks for.
+
+use crate::failure::Failure;
+use std::ffi::{OsStr, OsString};
+use std::path::PathBuf;
+
+/// The whole usage, for `--help` and for wrong arguments.
+pub const USAGE: &str = "\
+./run                          replays the listing of paper 01
+./run FILE                     replays a log
+./run --text FILE              replays a text log, one record a line
+./run --words FILE             tells in words what each step of a log or a text log did
+./run --version                tells the commit and the kit
+./run --help, ./run -h         prints these lines
+FILE may be -, which is standard input; a file whose name begins with - is given as ./-NAME
+";
+
+/// Where a log comes from.
+#[derive(Debug, PartialEq)]
+pub enum Source {
+    /// The listing of paper 01.
+    Listing,
+    /// Standard input.
+    Standard,
+    /// A file.
+    File(PathBuf),
+}
+
+/// What is asked for.
+#[derive(Debug, PartialEq)]
+pub enum Request {
+    Help,
+    Version,
+    Replay(Source),
+    Text(Source),
+    Words(Source),
+}
+
+/// What the arguments ask for.
+pub fn parse(arguments: &[OsString]) -> Result<Request, Failure> {
+    let Some((first, rest)) = arguments.split_first() else {
+        return Ok(Request::Replay(Source::Listing));
+    };
+    match first.to_str() {
+        Some("--help" | "-h") => alone(first, rest, Request::Help),
+        Some("--version") => alone(first, rest, Request::Version),
+        Some("--text") => one_file(first, rest).map(Request::Text),
+        Some("--words") => one_file(first, rest).map(Request::Words),
+        _ => alone(first, rest, Request::Replay(source(first)?)),
+    }
+}
+
+fn alone(first: &OsStr, rest: &[OsString], request: Request) -> Result<Request, Failure> {
+    match rest.first() {
+        None => Ok(request),
+        Some(extra) => Err(too_much(extra, first)),
+    }
+}
+
+fn one_file(option: &OsStr, rest: &[OsString]) -> Result<Source, Failure> {
+    match rest {
+        [] => Err(usage(format!("{} needs a file", option.display()))),
+        [file] => source(file),
+        [_, extra, ..] => Err(too_much(extra, option)),
+    }
+}
+
+/// The source that a word names; a word that begins with - is no file.
+fn source(word: &OsStr) -> Result<Source, Failure> {
+    if word == "-" {
+        return Ok(Source::Standard);
+    }
+    if word.is_empty() {
+        return Err(usage("a file's name is empty".to_owned()));
+    }
+    if word.as_encoded_bytes().starts_with(b"-") {
+        return Err(usage(format!("unknown option '{}'", word.display())));
+    }
+    Ok(Source::File(PathBuf::from(word)))
+}
+
+fn too_much(extra: &OsStr, before: &OsStr) -> Failure {
+    let (extra, before) = (extra.display(), before.display());
+    usage(format!("'{extra}' is too much after '{before}'"))
+}
+
+fn usage(problem: String) -> Failure {
+    Failure::Usage(problem)
+}

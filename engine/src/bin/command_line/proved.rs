@@ -1,0 +1,158 @@
+//! The proved program, built before it is used where it is missing or its
+//! sources have changed since.
+
+use crate::failure::Failure;
+use std::collections::BTreeSet;
+use std::fs::{self, File};
+use std::io::{self, BufRead, BufReader, ErrorKind, Write};
+use std::path::{Path, PathBuf};
+use std::process::{Command, Stdio};
+use std::time::SystemTime;
+
+/// The crate of the program.
+const PROGRAM: &str = "replay";
+
+/// At most this many lines are shown of what went wrong.
+const SHOWN_OF_A_FAILURE: usize = 40;
+
+/// Where the program is, after it was built if need be. Two that want to
+/// build it do so one after the other.
+pub fn proved_program(root: &Path) -> Result<PathBuf, Failure> {
+    let target = root.join("target");
+    let program = target.join("bin").join(PROGRAM);
+    let built = target.join("built");
+    if is_fresh(root, &program, &built) {
+        return Ok(program);
+    }
+    let lock = fs::create_dir_all(&target)
+        .and_then(|()| File::create(target.join("lock")))
+        .and_then(|lock| lock.lock().map(|()| lock))
+        .map_err(|error| {
+            Failure::Told(format!("{} cannot be written: {error}", target.display()))
+        })?;
+    if !is_fresh(root, &program, &built) {
+        let begun = SystemTime::now();
+        build(root)?;
+        File::create(&built)
+            .and_then(|file| file.set_modified(begun))
+            .map_err(|error| {
+                Failure::Told(format!("{} cannot be written: {error}", built.display()))
+            })?;
+    }
+    drop(lock);
+    Ok(program)
+}
+
+/// Whether the program is there and was built after the last change of what
+/// it is made of.
+fn is_fresh(root: &Path, program: &Path, built: &Path) -> bool {
+    let Ok(since) = modified(built) else {
+        return false;
+    };
+    program.is_file()
+        && crates_of(root, PROGRAM).is_some_and(|crates| {
+            let mut sources = crates.iter().map(|name| root.join("crates").join(name));
+            !is_newer(&root.join("crates.txt"), since)
+                && !sources.any(|source| is_newer(&source, since))
+        })
+}
+
+/// A crate of the repository and all that it is made of.
+fn crates_of(root: &Path, program: &str) -> Option<BTreeSet<String>> {
+    let list = fs::read_to_string(root.join("crates.txt")).ok()?;
+    let line = list
+        .lines()
+        .find_map(|line| line.strip_prefix(program)?.strip_prefix(':'))?;
+    let mut crates: BTreeSet<String> = line.split_whitespace().map(str::to_owned).collect();
+    crates.insert(program.to_owned());
+    crates.retain(|name| root.join("crates").join(name).is_dir());
+    Some(crates)
+}
+
+/// Whether a file, or anything in a folder, changed after a moment.
+fn is_newer(path: &Path, since: SystemTime) -> bool {
+    let entries = fs::read_dir(path).into_iter().flatten().flatten();
+    modified(path).is_ok_and(|changed| changed > since)
+        || entries
+            .map(|entry| entry.path())
+            .any(|path| is_newer(&path, since))
+}
+
+fn modified(path: &Path) -> io::Result<SystemTime> {
+    fs::metadata(path)?.modified()
+}
+
+/// Builds the program. Its progress is a line of the crates that are proved.
+fn build(root: &Path) -> Result<(), Failure> {
+    let mut rt = Command::new("rt")
+        .args(["check", PROGRAM])
+        .current_dir(root)
+        .stdin(Stdio::null())
+        .stdout(Stdio::piped())
+        .stderr(Stdio::inherit())
+        .spawn()
+        .map_err(|error| match error.kind() {
+            ErrorKind::NotFound => Failure::Told(NO_KIT.to_owned()),
+            _ => Failure::Told(format!("rt cannot be run: {error}")),
+        })?;
+    let said = BufReader::new(rt.stdout.take().expect("standard output is piped"));
+    let mut progress = Progress::new();
+    for line in said.lines().map_while(Result::ok) {
+        progress.heard(&line);
+    }
+    let proved = rt.wait().is_ok_and(|status| status.success());
+    progress.end(proved)
+}
+
+const NO_KIT: &str = "rt is not installed: the program is built with the kit of Rattle, see README.md, Prerequisites";
+
+/// What the build says, in short.
+struct Progress {
+    began: bool,
+    lines: Vec<String>,
+}
+
+impl Progress {
+    fn new() -> Progress {
+        Progress {
+            began: false,
+            lines: Vec::new(),
+        }
+    }
+
+    fn heard(&mut self, line: &str) {
+        let name = line
+            .strip_prefix("rt: ")
+            .and_then(|said| said.split_once(" proved ("))
+            .filter(|(_, how)| !how.starts_with("unchanged"));
+        match name {
+            Some((name, _)) => {
+                if !self.began {
+                    say("building the program, some minutes where all is new; proved:");
+                    self.began = true;
+                }
+                say(&format!(" {name}"));
+                self.lines.clear();
+            }
+            None => self.lines.push(line.to_owned()),
+        }
+    }
+
+    fn end(self, proved: bool) -> Result<(), Failure> {
+        if self.began {
+            say("\n");
+        }
+        if proved {
+            return Ok(());
+        }
+        let shown = self.lines.len().min(SHOWN_OF_A_FAILURE);
+        let wrong = self.lines[self.lines.len() - shown..].join("\n");
+        Err(Failure::Told(format!(
+            "the program cannot be built:\n{wrong}"
+        )))
+    }
+}
+
+fn say(text: &str) {
+    let _ = io::stderr().write_all(text.as_bytes());
+}
