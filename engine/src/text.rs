@@ -144,6 +144,12 @@ pub fn encode(text: &str) -> Result<Vec<u8>, Vec<TextError>> {
     }
 }
 
+/// Wrong lines as they are told, one a line, with some words before each.
+pub fn told(errors: &[TextError], before: &str) -> String {
+    let lines = errors.iter().map(|error| format!("{before}{error}"));
+    lines.collect::<Vec<_>>().join("\n")
+}
+
 /// A word as it is shown in an error: what can't be seen is written out, and a
 /// long word is cut.
 fn shown(word: &str) -> String {

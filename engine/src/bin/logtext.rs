@@ -4,7 +4,7 @@
 //! on standard output.
 
 use engine::standard::plain_file;
-use engine::text::{decode, encode, TextError};
+use engine::text::{decode, encode, told};
 use std::env;
 use std::ffi::OsString;
 use std::io::{self, Read, Write};
@@ -28,17 +28,12 @@ fn convert() -> Result<(), String> {
     let output = match arguments.as_slice() {
         [way] if way == "encode" => {
             let text = read_input()?;
-            encode(&String::from_utf8_lossy(&text)).map_err(|errors| told(&errors))?
+            encode(&String::from_utf8_lossy(&text)).map_err(|errors| told(&errors, ""))?
         }
         [way] if way == "decode" => decode(&read_input()?).into_bytes(),
         _ => return Err(USAGE.to_owned()),
     };
     write_output(&output).map_err(|error| format!("cannot write the output: {error}"))
-}
-
-fn told(errors: &[TextError]) -> String {
-    let lines: Vec<String> = errors.iter().map(TextError::to_string).collect();
-    lines.join("\n")
 }
 
 fn read_input() -> Result<Vec<u8>, String> {

@@ -52,7 +52,7 @@ impl Log {
 
 /// The log of steps written as the paper writes them, "start 0 0, call 0 1".
 pub fn log_of(steps: &str) -> Vec<u8> {
-    encode(&steps.replace(", ", "\n")).unwrap_or_else(|error| panic!("{error} of '{steps}'"))
+    encode(&steps.replace(", ", "\n")).unwrap_or_else(|errors| panic!("{errors:?} of '{steps}'"))
 }
 
 /// The desk that a log of whole records leaves.

@@ -2,8 +2,8 @@
 
 use crate::console::{self, Shown};
 use crate::document::{names, Document};
-use crate::logtext_program::build_logtext;
 use crate::proved_program::{program_at, USUAL_PLACE};
+use crate::release_programs::build_release;
 use crate::{quotes, running_text};
 
 fn documents() -> Vec<Document> {
@@ -30,7 +30,7 @@ fn every_command_prints_what_is_shown() {
     if program_at(USUAL_PLACE).is_none() {
         return;
     }
-    build_logtext();
+    build_release();
     for document in documents() {
         for shown in commands(&document) {
             if let Err(problem) = console::check(&shown) {

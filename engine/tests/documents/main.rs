@@ -13,12 +13,12 @@
 mod console;
 mod document;
 mod held;
-#[path = "../shared/logtext_program.rs"]
-mod logtext_program;
 mod performance;
 #[path = "../shared/proved_program.rs"]
 mod proved_program;
 mod quotes;
+#[path = "../shared/release_programs.rs"]
+mod release_programs;
 mod running_text;
 #[path = "../shared/table.rs"]
 mod table;

@@ -3,13 +3,13 @@
 //! input is still open. Every wait has a limit: a program that is not done by
 //! then is ended, and its test fails.
 
-#[path = "../shared/logtext_program.rs"]
-mod logtext_program;
 #[path = "../shared/printed_run.rs"]
 mod printed_run;
 mod program;
 #[path = "../shared/proved_program.rs"]
 mod proved_program;
 mod records;
+#[path = "../shared/release_programs.rs"]
+mod release_programs;
 mod running;
 mod script;

@@ -1,12 +1,12 @@
-//! `./run`: it ends with 1 where the program says that something failed, with
-//! the program's words on standard error, and with 0 where only its reader
-//! went away.
+//! `./run` on streams that fail: it ends with 1 where something can't be read
+//! or written, said on standard error, and with 0 where only its reader went
+//! away.
 
-use crate::logtext_program::build_logtext;
 use crate::printed_run::LISTING;
-use crate::program::{assert_lines_come_at_once, UNREADABLE, UNWRITABLE};
+use crate::program::{assert_lines_come_at_once, UNWRITABLE};
 use crate::proved_program::{program_at, USUAL_PLACE};
 use crate::records::{file_with, full_disk, long_log};
+use crate::release_programs::build_release;
 use crate::running::{End, Running};
 use engine::run_slice;
 use std::process::{Command, Stdio};
@@ -17,9 +17,7 @@ const ROOT: &str = concat!(env!("CARGO_MANIFEST_DIR"), "/..");
 /// script would build, in its own time, is there before.
 fn shell(line: &str) -> Option<Command> {
     program_at(USUAL_PLACE)?;
-    if line.contains("--text") {
-        build_logtext();
-    }
+    build_release();
     let mut command = Command::new("bash");
     command.args(["-c", line]).current_dir(ROOT);
     command.env("LC_ALL", "C").stdin(Stdio::null());
@@ -47,7 +45,11 @@ fn a_run_that_is_whole_ends_with_0() {
 
 #[test]
 fn a_full_disk_ends_with_1() {
-    for line in ["exec ./run", "exec ./run --text examples/listing.txt"] {
+    for line in [
+        "exec ./run",
+        "cat crates/replay/stdin | ./run -",
+        "exec ./run --text examples/listing.txt",
+    ] {
         let Some(mut command) = shell(line) else {
             return;
         };
@@ -66,9 +68,16 @@ fn a_closed_output_ends_with_1() {
 
 #[test]
 fn an_input_that_cannot_be_read_ends_with_1() {
-    for line in ["exec ./run docs", "exec ./run - <docs", "exec ./run - <&-"] {
+    for (line, name) in [
+        ("exec ./run docs", "docs"),
+        ("exec ./run --text docs", "docs"),
+        ("exec ./run - <docs", "standard input"),
+        ("exec ./run - <&-", "standard input"),
+        ("exec ./run --text - <&-", "standard input"),
+    ] {
         let Some(end) = end_of(line) else { return };
-        assert_end(&end, 1, "", UNREADABLE);
+        let said = format!("{name} cannot be read: Is a directory (os error 21)\n");
+        assert_end(&end, 1, "", &said);
     }
 }
 
@@ -85,20 +94,9 @@ fn a_closed_standard_error_does_not_hide_it() {
 fn a_file_that_is_not_there_ends_with_1() {
     for line in ["exec ./run none.log", "exec ./run --text none.log"] {
         let Some(end) = end_of(line) else { return };
-        assert_eq!((end.status.code(), &end.printed[..]), (Some(1), ""));
-        let told = "none.log: No such file or directory\n";
-        assert!(end.said.ends_with(told), "{}", end.said);
+        let said = "none.log cannot be read: No such file or directory (os error 2)\n";
+        assert_end(&end, 1, "", said);
     }
-}
-
-#[test]
-fn a_text_with_an_error_ends_with_the_readers_status() {
-    let text = file_with("wrong.txt", b"start 0 0\nsned 0 1 500\n");
-    let line = format!("exec ./run --text '{}'", text.display());
-    let Some(end) = end_of(&line) else { return };
-    assert_eq!((end.status.code(), &end.printed[..]), (Some(1), ""));
-    let told = "line 2: 'sned' is no record kind";
-    assert!(end.said.starts_with(told), "{}", end.said);
 }
 
 #[test]

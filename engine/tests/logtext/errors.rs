@@ -1,6 +1,6 @@
 //! What is said of a line that is no record: its number, and what was expected.
 
-use engine::text::{encode, TextError};
+use engine::text::{encode, told, TextError, MOST_ERRORS};
 
 const KINDS: &str =
     "start, call, route, send, take, move, heed, drain, land, part, end, look, bytes";
@@ -9,7 +9,7 @@ const KINDS: &str =
 fn complaint(text: &str) -> String {
     match encode(text) {
         Ok(log) => panic!("{text:?} is read as {log:?}"),
-        Err(error) => error.to_string(),
+        Err(errors) => told(&errors, ""),
     }
 }
 
@@ -25,9 +25,9 @@ fn an_unknown_word_is_named() {
 
 #[test]
 fn invisible_characters_are_shown() {
-    let said = complaint("\u{FEFF}start 0 0");
+    let said = complaint("look 0\n\u{FEFF}start 0 0");
     assert!(
-        said.starts_with("line 1: '\\u{feff}start' is no record kind"),
+        said.starts_with("line 2: '\\u{feff}start' is no record kind"),
         "{said}"
     );
     let said = complaint("look \u{1b}[2J");
@@ -120,18 +120,50 @@ fn numbers_out_of_range_are_named() {
 
 /// Lines are counted from 1, with those that hold no record.
 #[test]
-fn the_first_wrong_line_is_named() {
-    for (text, line) in [
-        ("look", 1),
-        ("start 0 0\nlook", 2),
-        ("\n# look\nlook\nlook", 3),
-        ("\r\n\r\n\r\nlook\r\n", 4),
-        ("look 0\n\nlook 1\n\nlook", 5),
+fn wrong_lines_are_named() {
+    for (text, lines) in [
+        ("look", &[1][..]),
+        ("start 0 0\nlook", &[2]),
+        ("\n# look\nlook\nlook", &[3, 4]),
+        ("\r\n\r\n\r\nlook\r\n", &[4]),
+        ("look 0\n\nlook 1\n\nlook", &[5]),
+        ("look\nlook 0\nlook\nlook 1\nlook", &[1, 3, 5]),
     ] {
-        let expected = TextError {
+        let expected = lines.iter().map(|&line| TextError {
             line,
             problem: "look needs rank".to_owned(),
-        };
-        assert_eq!(encode(text), Err(expected), "{text:?}");
+        });
+        assert_eq!(encode(text), Err(expected.collect()), "{text:?}");
+    }
+}
+
+#[test]
+fn ten_wrong_lines_are_told_at_once() {
+    for count in [9, MOST_ERRORS, 11, 100_000] {
+        let errors = encode(&"look\n".repeat(count)).unwrap_err();
+        let lines: Vec<usize> = errors.iter().map(|error| error.line).collect();
+        let told: Vec<usize> = (1..=count.min(MOST_ERRORS)).collect();
+        assert_eq!(lines, told);
+    }
+    assert_eq!(MOST_ERRORS, 10);
+}
+
+/// A word is shown up to 80 characters.
+#[test]
+fn a_long_word_is_cut() {
+    let long = "x".repeat(2_000_000);
+    for (word, shown) in [
+        (&long[..80], long[..80].to_owned()),
+        (&long[..81], format!("{}..", &long[..80])),
+        (&long, format!("{}..", &long[..80])),
+    ] {
+        let expected = format!("line 1: '{shown}' is no record kind; one of {KINDS}");
+        assert_eq!(complaint(word), expected);
+        let expected = format!("line 1: rank '{shown}' is not a number from 0 to 255");
+        assert_eq!(complaint(&format!("look {word}")), expected);
+        let expected = format!("line 1: byte '{shown}' is not a hexadecimal number from 0 to ff");
+        assert_eq!(complaint(&format!("bytes {word}")), expected);
+        let expected = format!("line 1: '{shown}' is too much; look needs rank");
+        assert_eq!(complaint(&format!("look 0 {word}")), expected);
     }
 }

@@ -41,7 +41,7 @@ fn a_wrong_line_is_reported_and_nothing_written() {
     assert_eq!(output.stdout, b"");
     let said = String::from_utf8(output.stderr).unwrap();
     assert!(said.starts_with("line 3: 'sned' is no record kind; one of start, call,"));
-    assert!(said.ends_with("look, bytes\n"));
+    assert!(said.ends_with("look, bytes\nline 4: look needs rank\n"));
 }
 
 /// Text in another encoding is fine in a comment, and shown elsewhere.

@@ -67,6 +67,7 @@ fn blanks_comments_and_line_ends_do_not_matter() {
         "# two ranks\nstart 0 0 # one\nstart 1 1# the other\n#\nlook 0 # look 1\n",
         "# start 5 5\r\nstart 0 0 # one\r\n\r\nstart 1 1\r\nlook 0#\r\n",
         "bytes 1 0 0 1 1\nbytes 01 0c 00 # the rest",
+        "\u{FEFF}start 0 0\r\nstart 1 1\r\nlook 0",
     ] {
         assert_eq!(encode(text).unwrap(), log, "{text:?}");
     }

@@ -21,8 +21,8 @@ impl Failure {
     /// Says it on standard error, and gives the status.
     pub fn told(self) -> ExitCode {
         let (text, status) = match self {
-            Failure::Usage(problem) => (format!("./run: {problem}\n{USAGE}"), 2),
-            Failure::Told(problem) => (format!("./run: {problem}\n"), 1),
+            Failure::Usage(problem) => (format!("{problem}\n{USAGE}"), 2),
+            Failure::Told(problem) => (format!("{problem}\n"), 1),
             Failure::SaidAlready => (String::new(), 1),
             Failure::ReaderGone => (String::new(), 0),
         };

@@ -4,7 +4,7 @@
 use crate::failure::Failure;
 use crate::options::Source;
 use engine::standard::plain_file;
-use engine::text::{encode, TextError};
+use engine::text::{encode, told};
 use std::fs::File;
 use std::io::{self, Cursor, ErrorKind, Read, Seek};
 use std::os::unix::fs::FileExt;
@@ -12,6 +12,9 @@ use std::path::Path;
 
 /// How many bytes are looked at to tell a text from a log.
 const LOOKED_AT: usize = 4_096;
+
+/// What some editors put before a text.
+const BYTE_ORDER_MARK: &[u8] = "\u{FEFF}".as_bytes();
 
 /// An opened input, with its first bytes.
 pub struct Input {
@@ -76,10 +79,15 @@ impl Input {
         &self.name
     }
 
-    /// Whether its first byte beside blanks is printable; no kind is.
+    /// Whether its first byte, beside blanks and a byte-order mark, is
+    /// printable; no kind is.
     pub fn looks_like_text(&self) -> bool {
-        let first = self.head.iter().find(|byte| !is_blank(**byte));
-        first.is_some_and(|&byte| byte > b' ')
+        let head = self
+            .head
+            .strip_prefix(BYTE_ORDER_MARK)
+            .unwrap_or(&self.head);
+        let first = head.iter().find(|byte| !is_blank(**byte));
+        first.is_some_and(u8::is_ascii_graphic)
     }
 
     /// The log of an input that is one.
@@ -99,7 +107,7 @@ impl Input {
         read.map_err(|error| unreadable(&name, &error))?;
         match encode(&String::from_utf8_lossy(&text)) {
             Ok(log) => Ok(Log::Handed(Box::new(Cursor::new(log)))),
-            Err(errors) => Err(Failure::Told(told(&name, &errors))),
+            Err(errors) => Err(Failure::Told(told(&errors, &format!("{name}, ")))),
         }
     }
 
@@ -111,11 +119,6 @@ impl Input {
             Ok(self.as_it_is())
         }
     }
-}
-
-fn told(name: &str, errors: &[TextError]) -> String {
-    let lines = errors.iter().map(|error| format!("{name}, {error}"));
-    lines.collect::<Vec<_>>().join("\n")
 }
 
 fn unreadable(name: &str, error: &io::Error) -> Failure {

@@ -1,0 +1,148 @@
+//! What is built before a run, with a kit that only feigns proofs: it notes
+//! each call, says what the kit says, and puts a program where it is looked
+//! for.
+
+use crate::script::{end_of, End};
+use std::fs;
+use std::os::unix::fs::PermissionsExt;
+use std::path::{Path, PathBuf};
+use std::process::Command;
+
+/// A repository of one crate below the program's, and the feigned kit.
+struct Repository {
+    folder: PathBuf,
+}
+
+const KIT: &str = r#"#!/bin/sh
+echo "$@" >>calls
+[ ! -e broken ] || { echo "rt: base proved (1 s)"; echo "crates/replay/src/main.rt:1: error"; echo "rt: FAILED: replay"; exit 1; }
+echo "rt: base proved (1 s)"
+for line in 1 2 3 4 5 6 7 8 9; do echo "fn base::f$line: proved"; done
+echo "rt: replay proved (2 s)"
+mkdir -p target/bin
+printf '#!/bin/sh\necho ran\n' >target/bin/replay
+chmod +x target/bin/replay
+"#;
+
+impl Repository {
+    fn new(name: &str) -> Repository {
+        let folder = PathBuf::from(env!("CARGO_TARGET_TMPDIR")).join(name);
+        let _ = fs::remove_dir_all(&folder);
+        for part in ["kit", "crates/base/specs", "crates/replay/src"] {
+            fs::create_dir_all(folder.join(part)).unwrap();
+        }
+        let repository = Repository { folder };
+        repository.write("crates.txt", "base:\nreplay: base\nother: base\n");
+        repository.write("crates/base/specs/Lib.antt", "");
+        repository.write("crates/replay/src/main.rt", "");
+        repository.write("crates/replay/stdin", "");
+        repository.write("kit/rt", KIT);
+        let rt = repository.folder.join("kit/rt");
+        fs::set_permissions(rt, fs::Permissions::from_mode(0o755)).unwrap();
+        repository
+    }
+
+    fn write(&self, file: &str, text: &str) {
+        fs::write(self.folder.join(file), text).unwrap();
+    }
+
+    fn run(&self, path: &Path) -> End {
+        let mut command = Command::new(env!("CARGO_BIN_EXE_command-line"));
+        let others = "/usr/bin:/bin";
+        command.env("PATH", format!("{}:{others}", path.display()));
+        end_of(command.arg(&self.folder))
+    }
+
+    fn with_kit(&self) -> End {
+        self.run(&self.folder.join("kit"))
+    }
+
+    /// How often the kit was called.
+    fn calls(&self) -> usize {
+        fs::read_to_string(self.folder.join("calls")).map_or(0, |calls| calls.lines().count())
+    }
+}
+
+fn ran(said: &str) -> End {
+    End {
+        status: Some(0),
+        printed: "ran\n".to_owned(),
+        said: said.to_owned(),
+    }
+}
+
+const BUILT: &str = "building the program, some minutes where all is new; proved: base replay\n";
+
+#[test]
+fn the_program_is_built_once() {
+    let repository = Repository::new("built-once");
+    assert_eq!(repository.with_kit(), ran(BUILT));
+    for _ in 0..3 {
+        assert_eq!(repository.with_kit(), ran(""));
+    }
+    assert_eq!(repository.calls(), 1);
+    let calls = fs::read_to_string(repository.folder.join("calls")).unwrap();
+    assert_eq!(calls, "check replay\n");
+}
+
+#[test]
+fn a_change_of_the_sources_builds_anew() {
+    let repository = Repository::new("changed");
+    repository.with_kit();
+    for (calls, file) in [
+        (2, "crates/replay/src/main.rt"),
+        (3, "crates/base/specs/Lib.antt"),
+        (4, "crates/base/specs/New.antt"),
+        (5, "crates.txt"),
+    ] {
+        repository.write(file, "base:\nreplay: base\nother: base\n");
+        assert_eq!(repository.with_kit(), ran(BUILT), "{file}");
+        assert_eq!(repository.calls(), calls, "{file}");
+    }
+    fs::remove_file(repository.folder.join("crates/base/specs/New.antt")).unwrap();
+    assert_eq!(repository.with_kit(), ran(BUILT));
+    fs::remove_file(repository.folder.join("target/bin/replay")).unwrap();
+    assert_eq!(repository.with_kit(), ran(BUILT));
+    assert_eq!(repository.calls(), 7);
+}
+
+#[test]
+fn a_change_elsewhere_builds_nothing() {
+    let repository = Repository::new("elsewhere");
+    repository.with_kit();
+    fs::create_dir_all(repository.folder.join("crates/other/src")).unwrap();
+    repository.write("crates/other/src/main.rt", "");
+    repository.write("README.md", "");
+    assert_eq!(repository.with_kit(), ran(""));
+}
+
+#[test]
+fn a_failed_build_is_told_and_tried_again() {
+    let repository = Repository::new("failed");
+    repository.write("broken", "");
+    let said = "building the program, some minutes where all is new; proved: base\n\
+        the program cannot be built:\n\
+        crates/replay/src/main.rt:1: error\nrt: FAILED: replay\n";
+    for calls in [1, 2] {
+        let end = repository.with_kit();
+        assert_eq!(
+            (end.status, &end.printed[..], &end.said[..]),
+            (Some(1), "", said)
+        );
+        assert_eq!(repository.calls(), calls);
+    }
+    fs::remove_file(repository.folder.join("broken")).unwrap();
+    assert_eq!(repository.with_kit(), ran(BUILT));
+}
+
+#[test]
+fn a_missing_kit_is_named() {
+    let repository = Repository::new("no-kit");
+    let end = repository.run(Path::new("/nowhere"));
+    assert_eq!((end.status, &end.printed[..]), (Some(1), ""));
+    assert!(
+        end.said.starts_with("rt is not installed: "),
+        "{}",
+        end.said
+    );
+}

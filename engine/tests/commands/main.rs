@@ -1,0 +1,11 @@
+//! `./run` as a user meets it: wrong command lines, text logs in the shapes
+//! that editors give them, and the building of what has changed.
+
+mod building;
+#[path = "../shared/proved_program.rs"]
+mod proved_program;
+#[path = "../shared/release_programs.rs"]
+mod release_programs;
+mod script;
+mod texts;
+mod usage;
