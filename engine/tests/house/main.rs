@@ -6,6 +6,7 @@
 mod aliases;
 mod citations;
 mod code;
+mod glossary;
 mod imports;
 mod laws;
 mod layers;
