@@ -8,7 +8,10 @@ use std::os::unix::fs::PermissionsExt;
 use std::path::{Path, PathBuf};
 use std::process::Command;
 
-/// A repository of one crate below the program's, and the feigned kit.
+/// The crate `base` is below the program's by way of another.
+const CRATES: &str = "# The crates.\nbase:\nlines: base\nreplay: lines io\nother: base\n";
+
+/// A repository of some crates below the program's, and the feigned kit.
 struct Repository {
     folder: PathBuf,
 }
@@ -32,7 +35,7 @@ impl Repository {
             fs::create_dir_all(folder.join(part)).unwrap();
         }
         let repository = Repository { folder };
-        repository.write("crates.txt", "base:\nreplay: base\nother: base\n");
+        repository.write("crates.txt", CRATES);
         repository.write("crates/base/specs/Lib.antt", "");
         repository.write("crates/replay/src/main.rt", "");
         repository.write("crates/replay/stdin", "");
@@ -95,7 +98,7 @@ fn a_change_of_the_sources_builds_anew() {
         (4, "crates/base/specs/New.antt"),
         (5, "crates.txt"),
     ] {
-        repository.write(file, "base:\nreplay: base\nother: base\n");
+        repository.write(file, CRATES);
         assert_eq!(repository.with_kit(), ran(BUILT), "{file}");
         assert_eq!(repository.calls(), calls, "{file}");
     }

@@ -2,7 +2,7 @@
 //! sources have changed since.
 
 use crate::failure::Failure;
-use std::collections::BTreeSet;
+use std::collections::{BTreeSet, HashMap};
 use std::fs::{self, File};
 use std::io::{self, BufRead, BufReader, ErrorKind, Write};
 use std::path::{Path, PathBuf};
@@ -57,16 +57,24 @@ fn is_fresh(root: &Path, program: &Path, built: &Path) -> bool {
         })
 }
 
-/// A crate of the repository and all that it is made of.
+/// A crate and all crates below it, as crates.txt has them.
 fn crates_of(root: &Path, program: &str) -> Option<BTreeSet<String>> {
     let list = fs::read_to_string(root.join("crates.txt")).ok()?;
-    let line = list
+    let below: HashMap<&str, &str> = list
         .lines()
-        .find_map(|line| line.strip_prefix(program)?.strip_prefix(':'))?;
-    let mut crates: BTreeSet<String> = line.split_whitespace().map(str::to_owned).collect();
-    crates.insert(program.to_owned());
-    crates.retain(|name| root.join("crates").join(name).is_dir());
-    Some(crates)
+        .filter_map(|line| line.split_once(':'))
+        .collect();
+    let mut found = BTreeSet::new();
+    let mut sought = vec![program];
+    while let Some(name) = sought.pop() {
+        // The kit's own libraries have no line.
+        if let Some(uses) = below.get(name) {
+            if found.insert(name.to_owned()) {
+                sought.extend(uses.split_whitespace());
+            }
+        }
+    }
+    Some(found)
 }
 
 /// Whether a file, or anything in a folder, changed after a moment.
