@@ -15,6 +15,7 @@ pub mod names;
 pub mod rank_set;
 pub mod record;
 pub mod refusal;
+mod refusal_words;
 pub mod run;
 pub mod snapshot;
 pub mod sound;

@@ -64,6 +64,42 @@ pub enum Refusal {
 }
 
 impl Refusal {
+    /// All refusals, ascending by number.
+    pub const ALL: [Refusal; 25] = [
+        Refusal::UnsoundState,
+        Refusal::UnknownKind,
+        Refusal::CutShort,
+        Refusal::RankOutOfRange,
+        Refusal::HostOutOfRange,
+        Refusal::RankNamedTwice,
+        Refusal::RankUnstarted,
+        Refusal::AlreadyStarted,
+        Refusal::RankEnded,
+        Refusal::RankMoving,
+        Refusal::RankNotMoving,
+        Refusal::LineStands,
+        Refusal::CallOpen,
+        Refusal::NoCall,
+        Refusal::NoLine,
+        Refusal::LineIsNotice,
+        Refusal::LineIsNotNotice,
+        Refusal::SameHost,
+        Refusal::AwaitStands,
+        Refusal::NoAwait,
+        Refusal::NothingToDrain,
+        Refusal::NothingUnread,
+        Refusal::UnreadRemain,
+        Refusal::DeskFull,
+        Refusal::NumbersExhausted,
+    ];
+
+    /// The refusal with this number.
+    pub fn from_number(number: u8) -> Option<Refusal> {
+        Refusal::ALL
+            .into_iter()
+            .find(|refusal| refusal.number() == number)
+    }
+
     /// The paper's number for this refusal.
     pub fn number(self) -> u8 {
         self as u8

@@ -239,7 +239,7 @@ pub fn decode(log: &[u8]) -> String {
     let mut text = String::new();
     let mut rest = log;
     while let Ok((step, length)) = Step::read(rest) {
-        push_record(&mut text, step);
+        writeln!(text, "{step}").expect("a string takes all text");
         rest = &rest[length..];
     }
     if !rest.is_empty() {
@@ -248,14 +248,15 @@ pub fn decode(log: &[u8]) -> String {
     text
 }
 
-fn push_record(text: &mut String, step: Step) {
-    let (kind, first, second, value) = step.fields();
-    text.push_str(kind.word());
-    let numbers = [u32::from(first), u32::from(second), value];
-    for number in &numbers[..fields_of(kind).len()] {
-        write!(text, " {number}").expect("a string takes all text");
+/// A record as its line of text has it.
+impl fmt::Display for Step {
+    fn fmt(&self, formatter: &mut fmt::Formatter<'_>) -> fmt::Result {
+        let (kind, first, second, value) = self.fields();
+        formatter.write_str(kind.word())?;
+        let numbers = [u32::from(first), u32::from(second), value];
+        let mut given = numbers[..fields_of(kind).len()].iter();
+        given.try_for_each(|number| write!(formatter, " {number}"))
     }
-    text.push('\n');
 }
 
 fn push_bytes(text: &mut String, bytes: &[u8]) {

@@ -4,6 +4,7 @@
 use crate::document::{Document, ROOT};
 use crate::table::{tables, Table};
 use engine::text::{decode, encode};
+use engine::Refusal;
 use std::fs;
 use std::path::Path;
 
@@ -43,16 +44,24 @@ fn readme_explains_every_line_of_the_move() {
     assert!(table.rows.iter().all(|row| row[2].len() > 10));
 }
 
+/// Cell by cell what a run in words says of each.
 #[test]
 fn every_refusal_is_explained() {
     let header = "| Number | What it means at the rack | What to do |";
     let table = table_of("docs/REFUSALS.md", header);
-    let numbers: Vec<_> = table.rows.iter().map(|row| row[0].clone()).collect();
-    let expected: Vec<_> = (1..=25).map(|number: u8| number.to_string()).collect();
-    assert_eq!(numbers, expected);
-    for row in &table.rows {
-        assert!(row.len() == 3 && row[1..].iter().all(|cell| cell.len() > 10));
-    }
+    let explained = Refusal::ALL.map(|refusal| {
+        let number = refusal.number().to_string();
+        vec![
+            number,
+            refusal.meaning().to_owned(),
+            refusal.remedy().to_owned(),
+        ]
+    });
+    assert_eq!(table.rows, explained);
+    assert_eq!(
+        Refusal::ALL.map(Refusal::number)[..],
+        *Vec::from_iter(1..=25)
+    );
 }
 
 #[test]
