@@ -26,12 +26,12 @@ impl Refusal {
             ),
             Refusal::UnknownKind => (
                 "a byte that is no record kind",
-                "the log is damaged or from another version: nothing behind this byte can be \
-                    trusted",
+                "fetch the log again: it is damaged or from another version, and nothing behind \
+                    this byte can be trusted",
             ),
             Refusal::CutShort => (
                 "the log ends here, or in the middle of the record",
-                "at the very end that is all; else the log was cut: fetch the rest",
+                "fetch the rest of the log; at its very end there is nothing to do",
             ),
             Refusal::RankOutOfRange => (
                 "a rank above 15",
@@ -51,7 +51,7 @@ impl Refusal {
             ),
             Refusal::AlreadyStarted => (
                 "a start of a rank that was started before",
-                "a rank is started once; move it if it should run elsewhere",
+                "leave the record out: a rank is started once; move it if it should run elsewhere",
             ),
             Refusal::RankEnded => (
                 "the first rank has ended",
@@ -63,7 +63,7 @@ impl Refusal {
             ),
             Refusal::RankNotMoving => (
                 "a drain or a landing of a rank that is not moving",
-                "where it has landed already, nothing; else its move was refused: see why, and \
+                "nothing where it has landed already; else see why its move was refused, and \
                     repeat it",
             ),
             Refusal::LineStands => (
@@ -110,7 +110,7 @@ impl Refusal {
             ),
             Refusal::NothingUnread => (
                 "nothing unread from that sender; for a look, nothing unread at all",
-                "not an error while one waits: take or look again later",
+                "take or look again later; while one waits this is no error",
             ),
             Refusal::UnreadRemain => (
                 "an end with messages unread",

@@ -1,7 +1,8 @@
 //! The printed run beside its log: each line with the record that it is about.
 
 use crate::failure::Failure;
-use engine::{Kind, Rank, Step};
+use engine::{Kind, Rank, Refusal, Step};
+use std::fmt;
 use std::io::{BufRead, BufReader, Read};
 
 /// A line of the printed run.
@@ -35,6 +36,15 @@ pub struct Pair {
     pub sender: Rank,
     pub receiver: Rank,
     pub counts: [u32; 4],
+}
+
+/// The line as it is printed.
+impl fmt::Display for Pair {
+    fn fmt(&self, formatter: &mut fmt::Formatter<'_>) -> fmt::Result {
+        write!(formatter, "pair {} {}", self.sender.0, self.receiver.0)?;
+        let mut counts = self.counts.iter();
+        counts.try_for_each(|count| write!(formatter, " {count}"))
+    }
 }
 
 /// The lines of a run, with the log that they are about.
@@ -83,7 +93,7 @@ impl<L: Read, P: BufRead> Lines<L, P> {
             text: text.to_owned(),
             position: position.parse().ok()?,
             kind: u8::from_str_radix(kind, 16).ok()?,
-            number: number.parse().ok()?,
+            number: number.parse().ok().filter(is_known)?,
             values: [v1.parse().ok()?, v2.parse().ok()?, v3.parse().ok()?],
             step: None,
         };
@@ -113,6 +123,19 @@ impl<L: Read, P: BufRead> Lines<L, P> {
         self.position += length as u64;
         Step::read(&record[..length]).ok().map(|(step, _)| step)
     }
+}
+
+impl<L, P: Read> Lines<L, &mut BufReader<P>> {
+    /// Whether something of the next line has been read already, so that the
+    /// rest of it is not long to come.
+    pub fn has_more_at_hand(&self) -> bool {
+        !self.printed.buffer().is_empty()
+    }
+}
+
+/// Whether this is the number of an accepted step or of a refusal.
+fn is_known(number: &u8) -> bool {
+    *number == 0 || Refusal::from_number(*number).is_some()
 }
 
 fn pair_of(text: &str) -> Option<Pair> {
