@@ -1,12 +1,8 @@
-//! Tables that explain: README has a row for each line of the move's run, and
-//! docs/REFUSALS.md one for each number.
+//! Tables that explain: docs/REFUSALS.md has a row for each number.
 
-use crate::document::{Document, ROOT};
+use crate::document::Document;
 use crate::table::{tables, Table};
-use engine::text::{decode, encode};
 use engine::Refusal;
-use std::fs;
-use std::path::Path;
 
 /// The tables of a document.
 pub fn tables_of(name: &str) -> Vec<Table> {
@@ -19,29 +15,6 @@ fn table_of(name: &str, header: &str) -> Table {
     let mut tables = tables_of(name).into_iter();
     let found = tables.find(|table| table.header == header);
     found.unwrap_or_else(|| panic!("{name} has no table '{header}'"))
-}
-
-/// Each record of a text log with its position, as README's table has them,
-/// and what stands at the end.
-fn records_of(name: &str) -> Vec<[String; 2]> {
-    let text = fs::read_to_string(Path::new(ROOT).join(name)).unwrap();
-    let mut position = 0;
-    let mut records = Vec::new();
-    for line in decode(&encode(&text).unwrap()).lines() {
-        records.push([position.to_string(), format!("`{line}`")]);
-        position += encode(line).unwrap().len();
-    }
-    records.push([String::new(), String::new()]);
-    records
-}
-
-#[test]
-fn readme_explains_every_line_of_the_move() {
-    let table = table_of("README.md", "| Position | Record | What happened |");
-    let records = records_of("examples/move-in-mid-pass.txt");
-    let explained: Vec<_> = table.rows.iter().map(|row| &row[..2]).collect();
-    assert_eq!(explained, records);
-    assert!(table.rows.iter().all(|row| row[2].len() > 10));
 }
 
 /// Cell by cell what a run in words says of each.
