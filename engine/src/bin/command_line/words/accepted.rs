@@ -123,10 +123,13 @@ fn land(Rank(r): Rank, listed: u32) -> String {
 
 fn part(Rank(a): Rank, Rank(b): Rank, towards_a: u32, towards_b: u32) -> String {
     let moved = match (towards_a, towards_b) {
-        (0, 0) => "nothing was on its lanes".to_owned(),
+        (0, 0) => "nothing was on the lanes".to_owned(),
         (0, count) => into_list(count, b),
         (count, 0) => into_list(count, a),
-        _ => format!("{}, {}", into_list(towards_a, a), into_list(towards_b, b)),
+        _ => {
+            let others = messages(towards_b);
+            format!("{}, {others} to rank {b}'s", into_list(towards_a, a))
+        }
     };
     format!("rank {a} and rank {b} part, and no line stands between them; {moved}.")
 }

@@ -1,0 +1,14 @@
+//! `./run --words`: what it tells of each kind of record and of each refusal,
+//! its summary, and that it holds on long logs and in bad places. Lines of
+//! words are indented; the others are the printed run.
+
+mod faults;
+mod inputs;
+mod joining;
+mod long_log;
+mod moving;
+mod program;
+#[path = "../shared/proved_program.rs"]
+mod proved_program;
+mod refused;
+mod summary;
