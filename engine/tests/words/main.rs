@@ -2,6 +2,7 @@
 //! its summary, and that it holds on long logs and in bad places. Lines of
 //! words are indented; the others are the printed run.
 
+mod broken_program;
 mod faults;
 mod inputs;
 mod joining;

@@ -1,0 +1,52 @@
+//! A program in the proved one's place that does not print the whole run: what
+//! it printed is told, there is no summary, and the status is 1.
+
+use crate::program::{file_with, log_of};
+use std::fs;
+use std::os::unix::fs::PermissionsExt;
+use std::path::PathBuf;
+use std::process::Command;
+
+/// A repository's root in which the program is this line of shell.
+fn root_with(name: &str, program: &str) -> PathBuf {
+    let root = PathBuf::from(env!("CARGO_TARGET_TMPDIR")).join(format!("words-{name}"));
+    fs::create_dir_all(root.join("target/bin")).unwrap();
+    fs::write(root.join("crates.txt"), "replay:\n").unwrap();
+    let path = root.join("target/bin/replay");
+    fs::write(&path, format!("#!/bin/sh\n{program}\n")).unwrap();
+    fs::set_permissions(path, fs::Permissions::from_mode(0o755)).unwrap();
+    fs::write(root.join("target/built"), "").unwrap();
+    root
+}
+
+const TOLD: &str = "\
+0 01 0 0 1 0
+    start 0 0: rank 0 starts on host 0; its vmid is 0.1: host 0, number 1.
+";
+
+const NO_END: &str = "the program stopped before the run's end\n";
+const MISFIT: &str = "the program printed what does not fit the log: ";
+
+#[test]
+fn a_run_that_is_not_whole_ends_with_1() {
+    let log = file_with("broken.log", &log_of("start 0 0, look 0"));
+    for (index, (program, printed, said)) in [
+        ("echo 0 01 0 0 1 0", TOLD, NO_END.to_owned()),
+        ("true", "", NO_END.to_owned()),
+        ("echo broken >&2", "", "broken\n".to_owned()),
+        ("echo 0 0C 0 0 0 0", "", format!("{MISFIT}0 0C 0 0 0 0\n")),
+        ("echo 3 01 0 0 0 0", "", format!("{MISFIT}3 01 0 0 0 0\n")),
+        ("echo 0 01 99 0 0 0", "", format!("{MISFIT}0 01 99 0 0 0\n")),
+        ("echo 0 01 0 0 1 0; echo no", TOLD, format!("{MISFIT}no\n")),
+    ]
+    .into_iter()
+    .enumerate()
+    {
+        let mut command = Command::new(env!("CARGO_BIN_EXE_command-line"));
+        command.arg(root_with(&format!("broken-{index}"), program));
+        let output = command.arg("--words").arg(&log).output().unwrap();
+        assert_eq!(output.status.code(), Some(1), "{program}");
+        assert_eq!(String::from_utf8_lossy(&output.stdout), printed);
+        assert_eq!(String::from_utf8_lossy(&output.stderr), said);
+    }
+}
