@@ -37,6 +37,7 @@ pub fn tell(mut running: Running) -> Result<(), Failure> {
     telling.tell_summary()
 }
 
+/// What is said of a run that has no last line.
 const NO_END: &str = "the program stopped before the run's end";
 
 /// A run that is being told: where to, and what it has come to so far.
