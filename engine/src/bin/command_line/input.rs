@@ -91,7 +91,7 @@ impl Input {
     }
 
     /// The log of an input that is one.
-    pub fn as_it_is(self) -> Log {
+    pub fn into_log(self) -> Log {
         if self.taken {
             Log::Handed(Box::new(Cursor::new(self.head).chain(self.file)))
         } else {
@@ -100,10 +100,10 @@ impl Input {
     }
 
     /// The log of a text.
-    pub fn as_text(self) -> Result<Log, Failure> {
+    pub fn into_log_of_text(self) -> Result<Log, Failure> {
         let name = self.name.clone();
         let mut text = Vec::new();
-        let read = self.as_it_is().bytes().read_to_end(&mut text);
+        let read = self.into_log().bytes().read_to_end(&mut text);
         read.map_err(|error| unreadable(&name, &error))?;
         match encode(&String::from_utf8_lossy(&text)) {
             Ok(log) => Ok(Log::Handed(Box::new(Cursor::new(log)))),
@@ -112,11 +112,11 @@ impl Input {
     }
 
     /// The log of either.
-    pub fn as_either(self) -> Result<Log, Failure> {
+    pub fn into_log_of_either(self) -> Result<Log, Failure> {
         if self.looks_like_text() {
-            self.as_text()
+            self.into_log_of_text()
         } else {
-            Ok(self.as_it_is())
+            Ok(self.into_log())
         }
     }
 }

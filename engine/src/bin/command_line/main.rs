@@ -49,14 +49,14 @@ fn serve(root: &Path, asked: &[OsString]) -> Result<(), Failure> {
                 // The run says the rest: its first line has refusal 2.
                 let _ = writeln!(io::stderr(), "{hint}");
             }
-            replay::replay(&proved_program(root)?, input.as_it_is())
+            replay::replay(&proved_program(root)?, input.into_log())
         }
         Request::Text(source) => {
-            let log = Input::open(&source, root)?.as_text()?;
+            let log = Input::open(&source, root)?.into_log_of_text()?;
             replay::replay(&proved_program(root)?, log)
         }
         Request::Words(source) => {
-            let log = Input::open(&source, root)?.as_either()?;
+            let log = Input::open(&source, root)?.into_log_of_either()?;
             words::tell(running::start(&proved_program(root)?, log)?)
         }
     }

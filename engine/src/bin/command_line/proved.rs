@@ -24,20 +24,18 @@ pub fn proved_program(root: &Path) -> Result<PathBuf, Failure> {
     if is_fresh(root, &program, &built) {
         return Ok(program);
     }
+    let unwritable =
+        |error| Failure::Told(format!("{} cannot be written: {error}", target.display()));
     let lock = fs::create_dir_all(&target)
         .and_then(|()| File::create(target.join("lock")))
         .and_then(|lock| lock.lock().map(|()| lock))
-        .map_err(|error| {
-            Failure::Told(format!("{} cannot be written: {error}", target.display()))
-        })?;
+        .map_err(unwritable)?;
     if !is_fresh(root, &program, &built) {
-        let begun = SystemTime::now();
+        // The time of this file is that of the build's begin.
+        let begun = target.join("begun");
+        fs::write(&begun, PROGRAM).map_err(unwritable)?;
         build(root)?;
-        File::create(&built)
-            .and_then(|file| file.set_modified(begun))
-            .map_err(|error| {
-                Failure::Told(format!("{} cannot be written: {error}", built.display()))
-            })?;
+        fs::rename(&begun, &built).map_err(unwritable)?;
     }
     drop(lock);
     Ok(program)
