@@ -80,14 +80,19 @@ impl Input {
     }
 
     /// Whether its first byte, beside blanks and a byte-order mark, is
-    /// printable; no kind is.
+    /// printable; no kind is. Two kinds, 09 and 0A, are blanks themselves, so
+    /// the line of that byte may have none but letters.
     pub fn looks_like_text(&self) -> bool {
         let head = self
             .head
             .strip_prefix(BYTE_ORDER_MARK)
             .unwrap_or(&self.head);
-        let first = head.iter().find(|byte| !is_blank(**byte));
-        first.is_some_and(u8::is_ascii_graphic)
+        let mut line = head
+            .iter()
+            .skip_while(|byte| is_blank(**byte))
+            .take_while(|byte| **byte != b'\n');
+        line.next().is_some_and(u8::is_ascii_graphic)
+            && line.all(|&byte| is_blank(byte) || !byte.is_ascii_control())
     }
 
     /// The log of an input that is one.
