@@ -6,6 +6,7 @@
 mod failure;
 mod input;
 mod options;
+mod picture;
 mod proved;
 mod replay;
 mod running;
@@ -58,6 +59,10 @@ fn serve(root: &Path, asked: &[OsString]) -> Result<(), Failure> {
         Request::Words(source) => {
             let log = Input::open(&source, root)?.into_log_of_either()?;
             words::tell(running::start(&proved_program(root)?, log)?)
+        }
+        Request::Picture(source, range) => {
+            let log = Input::open(&source, root)?.into_log_of_either()?;
+            picture::draw(running::start(&proved_program(root)?, log)?, range)
         }
     }
 }

@@ -10,6 +10,8 @@ pub const USAGE: &str = "\
 ./run FILE                     replays a log
 ./run --text FILE              replays a text log, one record a line
 ./run --words FILE             tells in words what each step of a log or a text log did
+./run --picture FILE           draws a log or a text log: an SVG on standard output
+./run --picture FILE FROM TO   draws its steps FROM to TO, counted from 1
 ./run --version                tells the commit and the kit
 ./run --help, ./run -h         prints these lines
 FILE may be -, which is standard input; a file whose name begins with - is given as ./-NAME
@@ -34,6 +36,8 @@ pub enum Request {
     Replay(Source),
     Text(Source),
     Words(Source),
+    /// With the first and the last step to be drawn, counted from 1.
+    Picture(Source, Option<(u64, u64)>),
 }
 
 /// What the arguments ask for.
@@ -46,6 +50,7 @@ pub fn parse(arguments: &[OsString]) -> Result<Request, Failure> {
         Some("--version") => alone(first, rest, Request::Version),
         Some("--text") => one_file(first, rest).map(Request::Text),
         Some("--words") => one_file(first, rest).map(Request::Words),
+        Some("--picture") => picture(first, rest),
         _ => alone(first, rest, Request::Replay(source(first)?)),
     }
 }
@@ -63,6 +68,38 @@ fn one_file(option: &OsStr, rest: &[OsString]) -> Result<Source, Failure> {
         [file] => source(file),
         [_, extra, ..] => Err(too_much(extra, option)),
     }
+}
+
+fn picture(option: &OsStr, rest: &[OsString]) -> Result<Request, Failure> {
+    let [file, from, to, extra @ ..] = rest else {
+        return match rest {
+            [_, from] => Err(usage(format!("'{}' needs the last step", from.display()))),
+            _ => one_file(option, rest).map(|source| Request::Picture(source, None)),
+        };
+    };
+    if let Some(extra) = extra.first() {
+        return Err(too_much(extra, to));
+    }
+    let range = (step_number(from)?, step_number(to)?);
+    if range.0 > range.1 {
+        let (from, to) = range;
+        return Err(usage(format!("step {from} comes after step {to}")));
+    }
+    Ok(Request::Picture(source(file)?, Some(range)))
+}
+
+/// The number of a step, counted from 1.
+fn step_number(word: &OsStr) -> Result<u64, Failure> {
+    let digits = word
+        .to_str()
+        .filter(|word| word.bytes().all(|byte| byte.is_ascii_digit()));
+    let number = digits.and_then(|digits| digits.parse().ok());
+    number.filter(|&number| number > 0).ok_or_else(|| {
+        usage(format!(
+            "'{}' is no step: steps are counted from 1",
+            word.display()
+        ))
+    })
 }
 
 /// The source that a word names; a word that begins with - is no file.
