@@ -1,0 +1,95 @@
+//! A proved program whose lines the second engine does not give is not drawn.
+//! A script feigns such a program.
+
+use crate::drawing::{end_of, file_with, End};
+use engine::text::encode;
+use std::fs::{self, File};
+use std::path::PathBuf;
+use std::process::Command;
+
+const TEXT: &str = "start 0 0\nstart 1 1\nstart 2 0\ncall 0 1\nroute 0 1\nsend 0 1 5\nlook 1\n";
+
+const RUN: &str = "\
+0 01 0 0 1 0
+3 01 0 1 1 0
+6 01 0 0 2 0
+9 02 0 1 1 0
+12 03 0 0 1 1
+15 04 0 1 0 0
+22 0C 0 0 0 0
+pair 0 1 0 0 0 1
+end
+";
+
+/// How it ended with a program that prints this of any log, in a repository of
+/// this name.
+fn drawn_as(repository: &str, printed: &str) -> End {
+    let root = PathBuf::from(env!("CARGO_TARGET_TMPDIR")).join(repository);
+    for folder in ["target/bin", "crates/replay"] {
+        fs::create_dir_all(root.join(folder)).unwrap();
+    }
+    fs::write(root.join("crates.txt"), "replay:\n").unwrap();
+    let text = format!("#!/bin/sh\ncat >/dev/null\ncat <<'END'\n{printed}END\n");
+    let script = root.join("script");
+    fs::write(&script, text).unwrap();
+    // Another process puts it there: a test beside this one that just starts
+    // a program could hold it open for writing, and it could not be run.
+    let mut install = Command::new("install");
+    install.args(["-m", "755"]).arg(&script);
+    let installed = install.arg(root.join("target/bin/replay")).status();
+    assert!(installed.unwrap().success());
+    File::create(root.join("target/built")).unwrap();
+    let log = file_with(&format!("{repository}.log"), &encode(TEXT).unwrap());
+    let mut command = Command::new(env!("CARGO_BIN_EXE_command-line"));
+    end_of(command.arg(root).args(["--picture", &log]))
+}
+
+#[test]
+fn only_the_proved_run_is_drawn() {
+    drawn_as("pictures-other", RUN).picture();
+    for (line, other) in [
+        ("3 01 0 1 1 0", "3 01 0 1 2 0"),
+        ("3 01 0 1 1 0", "3 01 8 0 0 0"),
+        ("15 04 0 1 0 0", "15 04 0 2 0 0"),
+        ("22 0C 0 0 0 0", "22 0C 0 2 0 0"),
+        ("22 0C 0 0 0 0", "22 0C 22 0 0 0"),
+        ("pair 0 1 0 0 0 1", "pair 0 1 0 0 1 0"),
+        ("pair 0 1 0 0 0 1", "pair 0 2 0 0 0 1"),
+        ("pair 0 1 0 0 0 1", "pair 0 16 0 0 0 1"),
+    ] {
+        let end = drawn_as("pictures-other", &RUN.replace(line, other));
+        assert_eq!((end.status, &end.printed[..]), (Some(1), ""), "{other}");
+        let told = "nothing is drawn: the second engine differs from the proved program at '";
+        let at = end
+            .said
+            .strip_prefix(told)
+            .unwrap_or_else(|| panic!("{}", end.said));
+        assert_eq!(at, format!("{other}'\n"));
+    }
+}
+
+#[test]
+fn a_run_without_its_lines_is_not_drawn() {
+    for (printed, told) in [
+        (
+            RUN.replace("pair 0 1 0 0 0 1\n", ""),
+            "nothing is drawn: the second engine differs",
+        ),
+        (
+            RUN.replace("end\n", ""),
+            "nothing is drawn: the program stopped before the run's end",
+        ),
+        (
+            String::new(),
+            "nothing is drawn: the program stopped before the run's end",
+        ),
+        (
+            RUN.replace("3 01", "4 01"),
+            "the program printed what does not fit the log",
+        ),
+    ] {
+        let end = drawn_as("pictures-missing", &printed);
+        assert_eq!((end.status, &end.printed[..]), (Some(1), ""), "{told}");
+        assert!(end.said.starts_with(told), "{}", end.said);
+    }
+}
