@@ -2,9 +2,9 @@
 //! each call, says what the kit says, and puts a program where it is looked
 //! for.
 
+use crate::feigned_program::put_program;
 use crate::script::{end_of, End};
 use std::fs;
-use std::os::unix::fs::PermissionsExt;
 use std::path::{Path, PathBuf};
 use std::process::Command;
 
@@ -39,9 +39,7 @@ impl Repository {
         repository.write("crates/base/specs/Lib.antt", "");
         repository.write("crates/replay/src/main.rt", "");
         repository.write("crates/replay/stdin", "");
-        repository.write("kit/rt", KIT);
-        let rt = repository.folder.join("kit/rt");
-        fs::set_permissions(rt, fs::Permissions::from_mode(0o755)).unwrap();
+        put_program(&repository.folder.join("kit/rt"), KIT);
         repository
     }
 

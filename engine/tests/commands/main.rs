@@ -2,6 +2,8 @@
 //! that editors give them, and the building of what has changed.
 
 mod building;
+#[path = "../shared/feigned_program.rs"]
+mod feigned_program;
 #[path = "../shared/proved_program.rs"]
 mod proved_program;
 #[path = "../shared/release_programs.rs"]

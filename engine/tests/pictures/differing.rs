@@ -2,6 +2,7 @@
 //! A script feigns such a program.
 
 use crate::drawing::{end_of, file_with, End};
+use crate::feigned_program::put_program;
 use engine::text::encode;
 use std::fs::{self, File};
 use std::path::PathBuf;
@@ -29,15 +30,8 @@ fn drawn_as(repository: &str, printed: &str) -> End {
         fs::create_dir_all(root.join(folder)).unwrap();
     }
     fs::write(root.join("crates.txt"), "replay:\n").unwrap();
-    let text = format!("#!/bin/sh\ncat >/dev/null\ncat <<'END'\n{printed}END\n");
-    let script = root.join("script");
-    fs::write(&script, text).unwrap();
-    // Another process puts it there: a test beside this one that just starts
-    // a program could hold it open for writing, and it could not be run.
-    let mut install = Command::new("install");
-    install.args(["-m", "755"]).arg(&script);
-    let installed = install.arg(root.join("target/bin/replay")).status();
-    assert!(installed.unwrap().success());
+    let script = format!("#!/bin/sh\ncat >/dev/null\ncat <<'END'\n{printed}END\n");
+    put_program(&root.join("target/bin/replay"), &script);
     File::create(root.join("target/built")).unwrap();
     let log = file_with(&format!("{repository}.log"), &encode(TEXT).unwrap());
     let mut command = Command::new(env!("CARGO_BIN_EXE_command-line"));

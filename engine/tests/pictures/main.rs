@@ -4,6 +4,8 @@
 mod contents;
 mod differing;
 mod drawing;
+#[path = "../shared/feigned_program.rs"]
+mod feigned_program;
 mod long_logs;
 mod outputs;
 #[path = "../shared/proved_program.rs"]

@@ -1,9 +1,9 @@
 //! A program in the proved one's place that does not print the whole run: what
 //! it printed is told, there is no summary, and the status is 1.
 
+use crate::feigned_program::put_program;
 use crate::program::{file_with, log_of};
 use std::fs;
-use std::os::unix::fs::PermissionsExt;
 use std::path::PathBuf;
 use std::process::Command;
 
@@ -12,9 +12,8 @@ fn root_with(name: &str, program: &str) -> PathBuf {
     let root = PathBuf::from(env!("CARGO_TARGET_TMPDIR")).join(format!("words-{name}"));
     fs::create_dir_all(root.join("target/bin")).unwrap();
     fs::write(root.join("crates.txt"), "replay:\n").unwrap();
-    let path = root.join("target/bin/replay");
-    fs::write(&path, format!("#!/bin/sh\n{program}\n")).unwrap();
-    fs::set_permissions(path, fs::Permissions::from_mode(0o755)).unwrap();
+    let script = format!("#!/bin/sh\n{program}\n");
+    put_program(&root.join("target/bin/replay"), &script);
     fs::write(root.join("target/built"), "").unwrap();
     root
 }

@@ -4,6 +4,8 @@
 
 mod broken_program;
 mod faults;
+#[path = "../shared/feigned_program.rs"]
+mod feigned_program;
 mod inputs;
 mod joining;
 mod long_log;
