@@ -1,0 +1,48 @@
+// Counts the answers to the log on standard input by their numbers: 0 where a step is accepted, and the refusals from 1 to 25.
+use broker::state::Broker;
+use libc::STDIN_FILENO;
+use libc::STDOUT_FILENO;
+use steps::step;
+
+// So many numbers has an answer.
+const NUMBERS: usize = 26;
+
+// How often an answer came, and once more: never more than fits.
+fn one_more(count: u32) -> u32 {
+    if count < 4294967295 { count + 1 } else { count }
+}
+
+// A number and how often it came, where it came.
+fn tell(number: usize, count: u32) {
+    if 0 < count {
+        io::print_decimal(STDOUT_FILENO, number as u64);
+        io::write_all(STDOUT_FILENO, b" ");
+        io::print_decimal(STDOUT_FILENO, count as u64);
+        io::write_all(STDOUT_FILENO, b"\n");
+    }
+}
+
+fn main() {
+    let mut log = io::large_buffer();
+    let end = io::read_full(STDIN_FILENO, &mut log);
+    let mut counts = [0u32; NUMBERS];
+    let mut broker = Broker::fresh();
+    let mut at: usize = 0;
+    while at < end {
+        let done = step(broker, &log[..end], at);
+        let answer = done.answer;
+        let number = answer.number() as usize;
+        if number < NUMBERS {
+            counts[number] = one_more(counts[number]);
+        }
+        let next = done.next;
+        if next <= at {
+            break;
+        }
+        broker = done.broker;
+        at = next;
+    }
+    for number in 0..NUMBERS {
+        tell(number, counts[number]);
+    }
+}
