@@ -4,7 +4,7 @@
 ghost use Rattle.broker.specs.State.{view};
 ghost use Rattle.broker.specs.Step.{Stepped};
 ghost use Rattle.checks.specs.Desk.{Desk};
-ghost use Rattle.steps.specs.Outcome.{outcome};
+ghost use Rattle.steps.specs.Outcome.{outcome, RefusalKeeps};
 use broker::answer::Answer;
 use broker::state::Broker;
 use lent::step_lent;
@@ -63,6 +63,7 @@ fn told(answer: Answer) -> u64 {
 // A step by lending: the state is lent to the step, and then handed back.
 fn step_by_lending(mut broker: Broker, log: &[u8], at: usize) -> Outcome
     ensures { λ o. ⌜ Stepped (view broker) (now (log .entry)) at (outcome o) ⌝ }
+    ensures refused_unchanged { λ o. ⌜ RefusalKeeps (o .answer) broker (o .broker) ⌝ }
 {
     let reply = step_lent(&mut broker, log, at);
     Outcome {

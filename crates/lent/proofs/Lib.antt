@@ -1,0 +1,2 @@
+-- What the proof of a caller cites.
+pub mod Lending
