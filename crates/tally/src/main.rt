@@ -1,18 +1,18 @@
-// Counts the answers to the log on standard input by their numbers: 0 where a step is accepted, and the refusals from 1 to 25.
+// Counts the answers to the log on standard input by their numbers, and prints each number that came with its count.
 use broker::state::Broker;
 use libc::STDIN_FILENO;
 use libc::STDOUT_FILENO;
 use steps::step;
 
-// So many numbers has an answer.
+// The numbers of an answer: 0 where the step is accepted, and the refusals from 1 to 25.
 const NUMBERS: usize = 26;
 
-// How often an answer came, and once more: never more than fits.
+// One more, up to the largest number that fits.
 fn one_more(count: u32) -> u32 {
     if count < 4294967295 { count + 1 } else { count }
 }
 
-// A number and how often it came, where it came.
+// A line for a number that came.
 fn tell(number: usize, count: u32) {
     if 0 < count {
         io::print_decimal(STDOUT_FILENO, number as u64);
@@ -22,6 +22,7 @@ fn tell(number: usize, count: u32) {
     }
 }
 
+// The log is read up to 65,536 bytes. No number is above 25: the test in the loop spares the proof of that.
 fn main() {
     let mut log = io::large_buffer();
     let end = io::read_full(STDIN_FILENO, &mut log);
