@@ -9,4 +9,4 @@ returns c =
 
 pub connect-both-spec : {M : Type 1} → statement M
 connect-both-spec =
-    tie.close (tie.spec (search needs) (search needs) returns)
+    tie.close (tie.spec (λ c. search needs) (λ c. search needs) returns)

@@ -63,5 +63,5 @@ returns-3 c =
 
 pub route-spec : {M : Type 1} → statement M
 route-spec =
-    tie.close (tie.spec (search needs) (search needs) (search needs) (search needs) (search needs) (search needs)
-    returns (search needs) (search needs) returns-2 (search needs) returns-3)
+    tie.close (tie.spec (λ c. search needs) (λ c. search needs) (λ c. search needs) (λ c. search needs) (λ c. search needs)
+    (λ c. search needs) returns (λ c. search needs) (λ c. search needs) returns-2 (λ c. search needs) returns-3)

@@ -8,4 +8,4 @@ returns c = rw (c .unless .ensures, c .before .asks-for .ensures, c .before .bef
 
 pub route-checked-spec : {M : Type 1} → statement M
 route-checked-spec =
-    tie.close (tie.spec (search needs) (search needs) (search needs) returns)
+    tie.close (tie.spec (λ c. search needs) (λ c. search needs) (λ c. search needs) returns)

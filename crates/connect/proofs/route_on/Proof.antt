@@ -13,4 +13,4 @@ returns c =
 
 pub route-on-spec : {M : Type 1} → statement M
 route-on-spec =
-    tie.close (tie.spec (search needs) (search needs) (search needs) (search needs) returns)
+    tie.close (tie.spec (λ c. search needs) (λ c. search needs) (λ c. search needs) (λ c. search needs) returns)

@@ -20,4 +20,4 @@ returns c =
 
 pub route-there-spec : {M : Type 1} → statement M
 route-there-spec =
-    tie.close (tie.spec (search needs) (search needs) (search needs) (search needs) (search needs) returns)
+    tie.close (tie.spec (λ c. search needs) (λ c. search needs) (λ c. search needs) (λ c. search needs) (λ c. search needs) returns)

@@ -15,4 +15,4 @@ returns c = λ roster whole.
 
 pub look-spec : {M : Type 1} → statement M
 look-spec =
-    tie.close (tie.spec (λ c κs. search needs) (search needs) (search needs) returns)
+    tie.close (tie.spec (λ c κs. search needs) (λ c. search needs) (λ c. search needs) returns)

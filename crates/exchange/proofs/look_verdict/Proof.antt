@@ -13,4 +13,4 @@ returns c =
 
 pub look-verdict-spec : {M : Type 1} → statement M
 look-verdict-spec =
-    tie.close (tie.spec (search needs) (λ c κs. search needs) (search needs) returns)
+    tie.close (tie.spec (λ c. search needs) (λ c κs. search needs) (λ c. search needs) returns)

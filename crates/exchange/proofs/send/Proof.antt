@@ -22,4 +22,4 @@ returns c =
 
 pub send-spec : {M : Type 1} → statement M
 send-spec =
-    tie.close (tie.spec (search needs) (search needs) (λ c κs. search needs) (search needs) returns)
+    tie.close (tie.spec (λ c. search needs) (λ c. search needs) (λ c κs. search needs) (λ c. search needs) returns)

@@ -11,4 +11,4 @@ returns c =
 
 pub send-checked-spec : {M : Type 1} → statement M
 send-checked-spec =
-    tie.close (tie.spec (search needs) (search needs) (search needs) (search needs) (search needs) returns)
+    tie.close (tie.spec (λ c. search needs) (λ c. search needs) (λ c. search needs) (λ c. search needs) (λ c. search needs) returns)

@@ -8,4 +8,4 @@ returns-2 c = cc
 
 pub sender-in-spec : {M : Type 1} → statement M
 sender-in-spec =
-    tie.close (tie.spec (search needs) (search needs) (λ c. search needs) returns-2)
+    tie.close (tie.spec (λ c. search needs) (λ c. search needs) (λ c. search needs) returns-2)

@@ -8,4 +8,4 @@ returns c = rw (c .unless .ensures, c .before .running .ensures, c .before .befo
 
 pub take-checked-spec : {M : Type 1} → statement M
 take-checked-spec =
-    tie.close (tie.spec (search needs) (search needs) (search needs) returns)
+    tie.close (tie.spec (λ c. search needs) (λ c. search needs) (λ c. search needs) returns)

@@ -18,4 +18,5 @@ returns c =
     (pair-parts (args .a) (args .b) (args .first ∷ args .second ∷ args .third ∷ args .fourth ∷ []))
 
 pub pair-line-spec : {M : Type 1} → statement M
-pair-line-spec = tie.close (tie.spec (search needs) (search needs) (search needs) (search needs) (search needs) returns)
+pair-line-spec =
+    tie.close (tie.spec (λ c. search needs) (λ c. search needs) (λ c. search needs) (λ c. search needs) (λ c. search needs) returns)

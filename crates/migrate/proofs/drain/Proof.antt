@@ -38,4 +38,4 @@ returns-2 c =
 
 pub drain-spec : {M : Type 1} → statement M
 drain-spec =
-    tie.close (tie.spec (λ c κs. search needs) (search needs) (search needs) enum-told (search needs) returns returns-2)
+    tie.close (tie.spec (λ c κs. search needs) (λ c. search needs) (λ c. search needs) enum-told (λ c. search needs) returns returns-2)

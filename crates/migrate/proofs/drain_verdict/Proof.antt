@@ -15,4 +15,4 @@ returns c =
 
 pub drain-verdict-spec : {M : Type 1} → statement M
 drain-verdict-spec =
-    tie.close (tie.spec (search needs) (search needs) (search needs) (λ c κs. search needs) (search needs) returns)
+    tie.close (tie.spec (λ c. search needs) (λ c. search needs) (λ c. search needs) (λ c κs. search needs) (λ c. search needs) returns)

@@ -19,4 +19,4 @@ returns c = λ contents m.
 
 pub heed-spec : {M : Type 1} → statement M
 heed-spec =
-    tie.close (tie.spec (search needs) (search needs) (search needs) (search needs) returns)
+    tie.close (tie.spec (λ c. search needs) (λ c. search needs) (λ c. search needs) (λ c. search needs) returns)

@@ -8,4 +8,4 @@ returns c = rw (c .unless .ensures, c .before .migrating .ensures, c .before .be
 
 pub land-checked-spec : {M : Type 1} → statement M
 land-checked-spec =
-    tie.close (tie.spec (search needs) (search needs) (search needs) returns)
+    tie.close (tie.spec (λ c. search needs) (λ c. search needs) (λ c. search needs) returns)

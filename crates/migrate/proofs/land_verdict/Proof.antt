@@ -14,4 +14,4 @@ returns c = λ u.
 
 pub land-verdict-spec : {M : Type 1} → statement M
 land-verdict-spec =
-    tie.close (tie.spec (search needs) (search needs) (search needs) returns)
+    tie.close (tie.spec (λ c. search needs) (λ c. search needs) (λ c. search needs) returns)

@@ -10,4 +10,4 @@ returns c =
 
 pub migrating-spec : {M : Type 1} → statement M
 migrating-spec =
-    tie.close (tie.spec (search needs) (search needs) (search needs) (search needs) returns)
+    tie.close (tie.spec (λ c. search needs) (λ c. search needs) (λ c. search needs) (λ c. search needs) returns)

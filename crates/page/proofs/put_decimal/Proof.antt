@@ -46,8 +46,9 @@ returns-2 c =
     decimal-put (args .n) (omega arith) (rw (decimal-one (head .loop .rest) (omega arith)) at (head .loop .inv .0)) (omega arith)
 
 pub put-decimal-spec : {M : Type 1} → statement M
-put-decimal-spec = tie.close (tie.spec Inv-loop μ-loop (search needs)
-    (λ c. omega (arith, length-of-word (c .before .before .args .n) (omega arith)))
+put-decimal-spec =
+    tie.close (tie.spec Inv-loop μ-loop (λ c. search needs) (λ c. omega (arith, length-of-word (c .before .before .args .n) (omega arith)))
     (λ c. (refl, omega arith, length-of-word (c .before .before .args .n) (omega arith), refl))
-    (λ c. omega (arith, length-two (c .before .loop .rest) (omega arith))) (search needs) (search needs) loop-again (search needs)
-    (search needs) (search needs) (search needs) (search needs) returns (λ c. search needs) returns-2)
+    (λ c. omega (arith, length-two (c .before .loop .rest) (omega arith))) (λ c. search needs) (λ c. search needs) loop-again
+    (λ c. search needs) (λ c. search needs) (λ c. search needs) (λ c. search needs) (λ c. search needs) returns (λ c. search needs)
+    returns-2)

@@ -13,4 +13,5 @@ returns c =
     first .put-byte .ensures then second .put-byte2 .ensures then third .put-byte3 .ensures then fourth .put-byte4 .ensures
 
 pub put-four-bytes-spec : {M : Type 1} → statement M
-put-four-bytes-spec = tie.close (tie.spec (search needs) (search needs) (search needs) (search needs) (search needs) returns)
+put-four-bytes-spec =
+    tie.close (tie.spec (λ c. search needs) (λ c. search needs) (λ c. search needs) (λ c. search needs) (λ c. search needs) returns)

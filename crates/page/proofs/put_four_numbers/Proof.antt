@@ -15,4 +15,4 @@ returns c =
     rw all at (first .put-two-numbers .ensures then second .put-two-numbers2 .ensures)
 
 pub put-four-numbers-spec : {M : Type 1} → statement M
-put-four-numbers-spec = tie.close (tie.spec (search needs) (search needs) (search needs) returns)
+put-four-numbers-spec = tie.close (tie.spec (λ c. search needs) (λ c. search needs) (λ c. search needs) returns)

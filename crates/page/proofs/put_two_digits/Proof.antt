@@ -7,5 +7,6 @@ use Rattle.page.proofs.put_two_digits.Statement.{statement}
 use Rattle.page.proofs.put_two_digits.Tie as tie
 
 pub put-two-digits-spec : {M : Type 1} → statement M
-put-two-digits-spec = tie.close (tie.spec (search needs) (search needs) (search needs) (search needs) (search needs) (search needs)
-    (λ c. rw length-set (omega arith)) (search needs) (λ c. rw add-one))
+put-two-digits-spec =
+    tie.close (tie.spec (λ c. search needs) (λ c. search needs) (λ c. search needs) (λ c. search needs) (λ c. search needs)
+    (λ c. search needs) (λ c. rw length-set (omega arith)) (λ c. search needs) (λ c. rw add-one))

@@ -13,4 +13,4 @@ returns c =
     rw (numbers-two (args .a) (args .b)) at (first .put-number .ensures then second .put-number2 .ensures)
 
 pub put-two-numbers-spec : {M : Type 1} → statement M
-put-two-numbers-spec = tie.close (tie.spec (search needs) (search needs) (search needs) returns)
+put-two-numbers-spec = tie.close (tie.spec (λ c. search needs) (λ c. search needs) (λ c. search needs) returns)

@@ -39,5 +39,7 @@ returns-4 c =
     omega (arith, length-two rest (omega arith), length-more last (omega arith), length-one (last / 10) (omega arith))
 
 pub width-spec : {M : Type 1} → statement M
-width-spec = tie.close (tie.spec Inv-loop μ-loop (λ c. (omega arith, length-of-word (c .args .n) (omega arith))) (search needs)
-    (search needs) loop-again (search needs) returns (search needs) returns-2 (search needs) returns-3 (search needs) returns-4)
+width-spec =
+    tie.close (tie.spec Inv-loop μ-loop (λ c. (omega arith, length-of-word (c .args .n) (omega arith))) (λ c. search needs)
+    (λ c. search needs) loop-again (λ c. search needs) returns (λ c. search needs) returns-2 (λ c. search needs) returns-3
+    (λ c. search needs) returns-4)

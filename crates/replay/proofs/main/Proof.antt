@@ -95,8 +95,10 @@ loop-again-2 c =
     (turn .turn .ensures .0, more, long, turned .keeps .1 ∙ inv .3, omega arith, omega arith)
 
 pub main-spec : {M : Type 1} → statement M
-main-spec = tie.close (tie.spec Inv-loop μ-loop (search needs) (search needs) (λ c κs. search needs) loop-holds (search needs)
-    (search needs) turn-requires (search needs) slice-aggregate-write-all (search needs) (search needs) (search needs) (search needs)
-    (λ c. search needs) loop-less loop-again (search needs) (search needs) (search needs) (search needs) loop-less-2 loop-again-2
-    (search needs) (search needs) (search needs) (search needs) (search needs) (search needs) (search needs) (search needs) (search needs)
-    (search needs))
+main-spec =
+    tie.close (tie.spec Inv-loop μ-loop (λ c. search needs) (λ c. search needs) (λ c κs. search needs) loop-holds (λ c. search needs)
+    (λ c. search needs) turn-requires (λ c. search needs) slice-aggregate-write-all (λ c. search needs) (λ c. search needs)
+    (λ c. search needs) (λ c. search needs) (λ c. search needs) loop-less loop-again (λ c. search needs) (λ c. search needs)
+    (λ c. search needs) (λ c. search needs) loop-less-2 loop-again-2 (λ c. search needs) (λ c. search needs) (λ c. search needs)
+    (λ c. search needs) (λ c. search needs) (λ c. search needs) (λ c. search needs) (λ c. search needs) (λ c. search needs)
+    (λ c. search needs))

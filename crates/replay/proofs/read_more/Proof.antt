@@ -29,5 +29,6 @@ returns-2 c =
     record { fills = (omega arith, omega arith); long = search needs; same = same }
 
 pub read-more-spec : {M : Type 1} → statement M
-read-more-spec = tie.close (tie.spec (search needs) (search needs) (search needs) (search needs) (search needs) returns (search needs)
-    (search needs) (search needs) (search needs) (search needs) (search needs) returns-2)
+read-more-spec =
+    tie.close (tie.spec (λ c. search needs) (λ c. search needs) (λ c. search needs) (λ c. search needs) (λ c. search needs) returns
+    (λ c. search needs) (λ c. search needs) (λ c. search needs) (λ c. search needs) (λ c. search needs) (λ c. search needs) returns-2)

@@ -40,4 +40,4 @@ returns-3 c =
     rw (by-parts start, passed, passed-too) (c .messages-sound .ensures)
 
 pub is-sound-spec : {M : Type 1} → statement M
-is-sound-spec = tie.close (tie.spec (search needs) returns (search needs) returns-2 (search needs) returns-3)
+is-sound-spec = tie.close (tie.spec (λ c. search needs) returns (λ c. search needs) returns-2 (λ c. search needs) returns-3)

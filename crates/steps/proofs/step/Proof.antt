@@ -57,5 +57,5 @@ returns-3 c =
 
 pub step-spec : {M : Type 1} → statement M
 step-spec =
-    tie.close (tie.spec (λ c κs. search needs) returns step-in-place-requires enum-told (search needs)
-    (λ c κs. search needs) returns-2 returns-3)
+    tie.close (tie.spec (λ c κs. search needs) returns step-in-place-requires enum-told (λ c. search needs) (λ c κs. search needs) returns-2
+    returns-3)

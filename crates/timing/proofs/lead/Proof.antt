@@ -13,5 +13,6 @@ abbrev μ-loop : tie.MeasureT-loop
 μ-loop log slots₀ contents₀ roster₀ at₀ slots contents roster at = length log - at
 
 pub lead-spec : {M : Type 1} → statement M
-lead-spec = tie.close (tie.spec Inv-loop μ-loop (λ c. search needs) (λ c κs. search needs) (λ c. search needs) (search needs)
+lead-spec =
+    tie.close (tie.spec Inv-loop μ-loop (λ c. search needs) (λ c κs. search needs) (λ c. search needs) (λ c. search needs)
     (λ c. search needs) (λ c. search needs))

@@ -11,5 +11,6 @@ abbrev μ-loop : tie.MeasureT-loop
 μ-loop call times look broker₀ sum₀ turn₀ broker sum turn = times - turn
 
 pub looks-spec : {M : Type 1} → statement M
-looks-spec = tie.close (tie.spec Inv-loop μ-loop (search needs) (λ c κs. search needs) (search needs) (search needs) (search needs)
-    (search needs) (search needs) (search needs))
+looks-spec =
+    tie.close (tie.spec Inv-loop μ-loop (λ c. search needs) (λ c κs. search needs) (λ c. search needs) (λ c. search needs)
+    (λ c. search needs) (λ c. search needs) (λ c. search needs) (λ c. search needs))

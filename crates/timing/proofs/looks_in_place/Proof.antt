@@ -13,5 +13,6 @@ abbrev μ-loop : tie.MeasureT-loop
 μ-loop times slots₀ contents₀ roster₀ look sum₀ turn₀ slots contents roster sum turn = times - turn
 
 pub looks-in-place-spec : {M : Type 1} → statement M
-looks-in-place-spec = tie.close (tie.spec Inv-loop μ-loop (λ c. search needs) (λ c κs. search needs) (search needs) (search needs)
-    (search needs) (search needs) (λ c. search needs) (search needs))
+looks-in-place-spec =
+    tie.close (tie.spec Inv-loop μ-loop (λ c. search needs) (λ c κs. search needs) (λ c. search needs) (λ c. search needs)
+    (λ c. search needs) (λ c. search needs) (λ c. search needs) (λ c. search needs))

@@ -11,5 +11,6 @@ abbrev μ-loop : tie.MeasureT-loop
 μ-loop b times sum₀ turn₀ sum turn = times - turn
 
 pub tests-spec : {M : Type 1} → statement M
-tests-spec = tie.close (tie.spec Inv-loop μ-loop (search needs) (search needs) (search needs) (search needs) (search needs) (search needs)
-    (search needs))
+tests-spec =
+    tie.close (tie.spec Inv-loop μ-loop (λ c. search needs) (λ c. search needs) (λ c. search needs) (λ c. search needs) (λ c. search needs)
+    (λ c. search needs) (λ c. search needs))

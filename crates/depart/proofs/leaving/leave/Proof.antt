@@ -33,5 +33,5 @@ returns-3 c =
 
 pub leave-spec : {M : Type 1} → statement M
 leave-spec =
-    tie.close (tie.spec (search needs) enum-told (search needs) (search needs) (search needs) (search needs)
-    (search needs) (search needs) returns returns-2 returns-3)
+    tie.close (tie.spec (λ c. search needs) enum-told (λ c. search needs) (λ c. search needs) (λ c. search needs) (λ c. search needs)
+    (λ c. search needs) (λ c. search needs) returns returns-2 returns-3)

@@ -51,4 +51,4 @@ returns c =
 
 pub leave-all-spec : {M : Type 1} → statement M
 leave-all-spec =
-    tie.close (tie.spec Inv-loop μ-loop loop-holds leave-requires (search needs) (search needs) loop-again returns)
+    tie.close (tie.spec Inv-loop μ-loop loop-holds leave-requires (λ c. search needs) (λ c. search needs) loop-again returns)

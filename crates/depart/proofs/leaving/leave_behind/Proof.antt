@@ -21,4 +21,4 @@ returns c = λ contents m.
 
 pub leave-behind-spec : {M : Type 1} → statement M
 leave-behind-spec =
-    tie.close (tie.spec (search needs) (search needs) returns)
+    tie.close (tie.spec (λ c. search needs) (λ c. search needs) returns)

@@ -34,5 +34,6 @@ returns c =
     rw (head .loop .inv .0, all) (all-moved (args .buffer .now) (args .from) (args .held) (omega arith) (omega arith))
 
 pub keep-rest-spec : {M : Type 1} → statement M
-keep-rest-spec = tie.close (tie.spec Inv-loop μ-loop (λ c. (refl, omega arith, refl)) (search needs) (search needs) (search needs)
-    (search needs) (search needs) (search needs) loop-again (search needs) returns)
+keep-rest-spec =
+    tie.close (tie.spec Inv-loop μ-loop (λ c. (refl, omega arith, refl)) (λ c. search needs) (λ c. search needs) (λ c. search needs)
+    (λ c. search needs) (λ c. search needs) (λ c. search needs) loop-again (λ c. search needs) returns)

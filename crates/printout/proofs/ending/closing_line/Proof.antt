@@ -25,4 +25,4 @@ returns-2 c =
     (line .refused-line .ensures)
 
 pub closing-line-spec : {M : Type 1} → statement M
-closing-line-spec = tie.close (tie.spec returns (search needs) (search needs) (search needs) (search needs) returns-2)
+closing-line-spec = tie.close (tie.spec returns (λ c. search needs) (λ c. search needs) (λ c. search needs) (λ c. search needs) returns-2)

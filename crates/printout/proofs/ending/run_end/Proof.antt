@@ -11,4 +11,4 @@ returns c =
     and-then (said-of-any (closed .closing-line .ensures)) (last .last-lines .ensures)
 
 pub run-end-spec : {M : Type 1} → statement M
-run-end-spec = tie.close (tie.spec (search needs) (λ c κs. search needs) (search needs) returns)
+run-end-spec = tie.close (tie.spec (λ c. search needs) (λ c κs. search needs) (λ c. search needs) returns)

@@ -34,5 +34,6 @@ returns c =
     and-then (rw all at (head .loop .inv .0)) (said-of-any (last .end-line .ensures))
 
 pub last-lines-spec : {M : Type 1} → statement M
-last-lines-spec = tie.close (tie.spec Inv-loop μ-loop (λ c. (said-of-any nothing, omega arith)) (λ c κs. (omega arith, omega arith))
-    (search needs) (search needs) loop-again (search needs) (search needs) returns)
+last-lines-spec =
+    tie.close (tie.spec Inv-loop μ-loop (λ c. (said-of-any nothing, omega arith)) (λ c κs. (omega arith, omega arith)) (λ c. search needs)
+    (λ c. search needs) loop-again (λ c. search needs) (λ c. search needs) returns)

@@ -49,5 +49,6 @@ returns-2 c =
     }
 
 pub lines-of-pair-spec : {M : Type 1} → statement M
-lines-of-pair-spec = tie.close (tie.spec (search needs) returns (search needs) (search needs) (search needs) (search needs) (search needs)
-    (search needs) (search needs) (search needs) (λ c κs. search needs) (search needs) returns-2)
+lines-of-pair-spec =
+    tie.close (tie.spec (λ c. search needs) returns (λ c. search needs) (λ c. search needs) (λ c. search needs) (λ c. search needs)
+    (λ c. search needs) (λ c. search needs) (λ c. search needs) (λ c. search needs) (λ c κs. search needs) (λ c. search needs) returns-2)

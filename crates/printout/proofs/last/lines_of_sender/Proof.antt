@@ -31,5 +31,6 @@ returns c =
     rw all at (c .before .loop .inv .0)
 
 pub lines-of-sender-spec : {M : Type 1} → statement M
-lines-of-sender-spec = tie.close (tie.spec Inv-loop μ-loop (λ c. (said-of-any nothing, omega arith))
-    (λ c κs. ((omega arith, omega arith), omega arith)) (search needs) (search needs) loop-again (search needs) returns)
+lines-of-sender-spec =
+    tie.close (tie.spec Inv-loop μ-loop (λ c. (said-of-any nothing, omega arith)) (λ c κs. ((omega arith, omega arith), omega arith))
+    (λ c. search needs) (λ c. search needs) loop-again (λ c. search needs) returns)

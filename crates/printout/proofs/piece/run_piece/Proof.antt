@@ -69,7 +69,8 @@ returns-4 c =
     (head .loop .inv .0, (head .loop .inv .1, at-end piece (head .loop .at) (omega arith)))
 
 pub run-piece-spec : {M : Type 1} → statement M
-run-piece-spec = tie.close (tie.spec Inv-loop μ-loop loop-holds (search needs) (search needs)
-    (λ c. let inv = c .before .before .loop .inv in (inv .0, (inv .1, omega arith))) (search needs) (search needs) (search needs)
-    (λ c κs. search needs) (search needs) (search needs) (search needs) loop-less loop-again (λ c. search needs) (search needs) returns-2
-    (search needs) (search needs) returns-3 (search needs) returns-4)
+run-piece-spec =
+    tie.close (tie.spec Inv-loop μ-loop loop-holds (λ c. search needs) (λ c. search needs)
+    (λ c. let inv = c .before .before .loop .inv in (inv .0, (inv .1, omega arith))) (λ c. search needs) (λ c. search needs)
+    (λ c. search needs) (λ c κs. search needs) (λ c. search needs) (λ c. search needs) (λ c. search needs) loop-less loop-again
+    (λ c. search needs) (λ c. search needs) returns-2 (λ c. search needs) (λ c. search needs) returns-3 (λ c. search needs) returns-4)

@@ -103,6 +103,8 @@ returns-4 c =
     (piece .0, rw (next .next-of .ensures) on)
 
 pub turn-spec : {M : Type 1} → statement M
-turn-spec = tie.close (tie.spec returns (search needs) slice-aggregate-run-piece run-piece-requires keep-rest-requires add-further
-    (search needs) (λ c. search needs) (search needs) (search needs) (search needs) returns-2 (search needs) slice-aggregate-run-end
-    (λ c κs. search needs) (search needs) (search needs) returns-3 (search needs) (search needs) returns-4)
+turn-spec =
+    tie.close (tie.spec returns (λ c. search needs) slice-aggregate-run-piece run-piece-requires keep-rest-requires add-further
+    (λ c. search needs) (λ c. search needs) (λ c. search needs) (λ c. search needs) (λ c. search needs) returns-2 (λ c. search needs)
+    slice-aggregate-run-end (λ c κs. search needs) (λ c. search needs) (λ c. search needs) returns-3 (λ c. search needs) (λ c. search needs)
+    returns-4)

@@ -36,5 +36,5 @@ loop-again c =
 
 pub alone-spec : {M : Type 1} → statement M
 alone-spec =
-    tie.close (tie.spec Inv-loop μ-loop (λ c. (omega arith, below-none _)) (λ c κs. c .before .before .pre) (search needs) returns
-    (search needs) (search needs) loop-again (λ c. sym (everyRank-of _ (λ r b. c .before .loop .inv .1 (r .0) (omega arith)))))
+    tie.close (tie.spec Inv-loop μ-loop (λ c. (omega arith, below-none _)) (λ c κs. c .before .before .pre) (λ c. search needs) returns
+    (λ c. search needs) (λ c. search needs) loop-again (λ c. sym (everyRank-of _ (λ r b. c .before .loop .inv .1 (r .0) (omega arith)))))

@@ -46,5 +46,5 @@ returns c =
 
 pub awaits-spec : {M : Type 1} → statement M
 awaits-spec =
-    tie.close (tie.spec Inv-loop μ-loop (search needs) (λ c κs. c .before .before .pre) (search needs) (search needs) (search needs)
-    (search needs) loop-again returns)
+    tie.close (tie.spec Inv-loop μ-loop (λ c. search needs) (λ c κs. c .before .before .pre) (λ c. search needs) (λ c. search needs)
+    (λ c. search needs) (λ c. search needs) loop-again returns)

@@ -20,5 +20,5 @@ loop-again c = copy-next (c .before .loop .inv) (omega arith) refl
 
 pub clear-spec : {M : Type 1} → statement M
 clear-spec =
-    tie.close (tie.spec Inv-loop μ-loop (λ c. copy-none (c .pre)) (search needs) (search needs) (search needs) (search needs) loop-again
-    (λ c. cleared (c .before .loop .inv) (omega arith)))
+    tie.close (tie.spec Inv-loop μ-loop (λ c. copy-none (c .pre)) (λ c. search needs) (λ c. search needs) (λ c. search needs)
+    (λ c. search needs) loop-again (λ c. cleared (c .before .loop .inv) (omega arith)))

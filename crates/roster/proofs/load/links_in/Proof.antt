@@ -25,5 +25,6 @@ loop-again c =
 pub links-in-spec : {M : Type 1} → statement M
 unfolding ranksOf
 links-in-spec =
-    tie.close (tie.spec Inv-loop μ-loop (λ c. copy-none refl) (search needs) (search needs) (search needs) (search needs) (search needs)
-    (search needs) (search needs) (search needs) loop-again (λ c. copy-whole (c .before .loop .inv) (omega arith)))
+    tie.close (tie.spec Inv-loop μ-loop (λ c. copy-none refl) (λ c. search needs) (λ c. search needs) (λ c. search needs)
+    (λ c. search needs) (λ c. search needs) (λ c. search needs) (λ c. search needs) (λ c. search needs) loop-again
+    (λ c. copy-whole (c .before .loop .inv) (omega arith)))

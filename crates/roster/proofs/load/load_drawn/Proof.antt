@@ -24,7 +24,7 @@ loop-again c =
 
 pub load-drawn-spec : {M : Type 1} → statement M
 load-drawn-spec =
-    tie.close (tie.spec Inv-loop μ-loop (λ c. (omega arith, fill-none (c .pre))) (search needs) (search needs) (search needs)
-    (search needs) (search needs) (search needs) (search needs) (search needs) loop-again
+    tie.close (tie.spec Inv-loop μ-loop (λ c. (omega arith, fill-none (c .pre))) (λ c. search needs) (λ c. search needs) (λ c. search needs)
+    (λ c. search needs) (λ c. search needs) (λ c. search needs) (λ c. search needs) (λ c. search needs) loop-again
     (λ c. drawn-only (c .before .loop .inv .1 .kept)
     (fill-whole (c .before .loop .inv .1) (c .before .before .good .0 .1 .0 .1) (omega arith))))

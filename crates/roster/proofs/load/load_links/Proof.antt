@@ -25,7 +25,7 @@ loop-again c =
 
 pub load-links-spec : {M : Type 1} → statement M
 load-links-spec =
-    tie.close (tie.spec Inv-loop μ-loop (λ c. (omega arith, fill-none (c .pre))) (search needs) (search needs) (search needs)
-    (search needs) (search needs) (search needs) (search needs) (search needs) loop-again
+    tie.close (tie.spec Inv-loop μ-loop (λ c. (omega arith, fill-none (c .pre))) (λ c. search needs) (λ c. search needs) (λ c. search needs)
+    (λ c. search needs) (λ c. search needs) (λ c. search needs) (λ c. search needs) (λ c. search needs) loop-again
     (λ c. links-only (c .before .loop .inv .1 .kept)
     (fill-whole (c .before .loop .inv .1) (c .before .before .good .0 .1 .0 .1) (omega arith))))

@@ -46,7 +46,7 @@ loop-again c =
 
 pub load-locations-spec : {M : Type 1} → statement M
 load-locations-spec =
-    tie.close (tie.spec Inv-loop2 μ-loop2 Inv-loop μ-loop (λ c. (omega arith, fill-none (c .pre))) (search needs) (search needs)
-    (λ c. (omega arith, fill-from (c .before .before .loop .inv .1) (omega arith))) (search needs) (search needs) (search needs)
-    (search needs) (search needs) (search needs) (search needs) (search needs) (search needs) loop2-again (search needs) (search needs)
-    loop-again returns)
+    tie.close (tie.spec Inv-loop2 μ-loop2 Inv-loop μ-loop (λ c. (omega arith, fill-none (c .pre))) (λ c. search needs) (λ c. search needs)
+    (λ c. (omega arith, fill-from (c .before .before .loop .inv .1) (omega arith))) (λ c. search needs) (λ c. search needs)
+    (λ c. search needs) (λ c. search needs) (λ c. search needs) (λ c. search needs) (λ c. search needs) (λ c. search needs)
+    (λ c. search needs) loop2-again (λ c. search needs) (λ c. search needs) loop-again returns)

@@ -30,6 +30,6 @@ returns c =
 
 pub load-processes-spec : {M : Type 1} → statement M
 load-processes-spec =
-    tie.close (tie.spec Inv-loop μ-loop (λ c. (omega arith, fill-none (c .pre))) (search needs) (search needs) (search needs)
-    (search needs) (search needs) (search needs) (search needs) (search needs) (search needs) (search needs) (search needs) loop-again
-    returns)
+    tie.close (tie.spec Inv-loop μ-loop (λ c. (omega arith, fill-none (c .pre))) (λ c. search needs) (λ c. search needs) (λ c. search needs)
+    (λ c. search needs) (λ c. search needs) (λ c. search needs) (λ c. search needs) (λ c. search needs) (λ c. search needs)
+    (λ c. search needs) (λ c. search needs) loop-again returns)

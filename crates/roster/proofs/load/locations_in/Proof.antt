@@ -34,7 +34,7 @@ loop2-again c =
 pub locations-in-spec : {M : Type 1} → statement M
 unfolding ranksOf
 locations-in-spec =
-    tie.close (tie.spec Inv-loop2 μ-loop2 Inv-loop μ-loop (search needs) (λ c. copy-none refl) (search needs) (search needs)
-    (λ c. (omega arith, copy-fewer (c .before .before .loop .inv) (omega arith))) (search needs) (search needs) (search needs)
-    (search needs) (search needs) (search needs) (search needs) loop2-again (search needs) (search needs)
-    (λ c. copy-fewer (c .before .loop2 .inv .1) (omega arith)) (λ c. copy-whole (c .before .loop .inv) (omega arith)))
+    tie.close (tie.spec Inv-loop2 μ-loop2 Inv-loop μ-loop (λ c. search needs) (λ c. copy-none refl) (λ c. search needs) (λ c. search needs)
+    (λ c. (omega arith, copy-fewer (c .before .before .loop .inv) (omega arith))) (λ c. search needs) (λ c. search needs)
+    (λ c. search needs) (λ c. search needs) (λ c. search needs) (λ c. search needs) (λ c. search needs) loop2-again (λ c. search needs)
+    (λ c. search needs) (λ c. copy-fewer (c .before .loop2 .inv .1) (omega arith)) (λ c. copy-whole (c .before .loop .inv) (omega arith)))

@@ -24,6 +24,6 @@ loop-again c =
 
 pub row-in-spec : {M : Type 1} → statement M
 row-in-spec =
-    tie.close (tie.spec Inv-loop μ-loop (search needs) (search needs) (λ c. copy-none refl) (search needs) (search needs) (search needs)
-    (search needs) (search needs) (search needs) (search needs) (search needs) (search needs) loop-again
-    (λ c. copy-whole (c .before .loop .inv) (omega arith)))
+    tie.close (tie.spec Inv-loop μ-loop (λ c. search needs) (λ c. search needs) (λ c. copy-none refl) (λ c. search needs)
+    (λ c. search needs) (λ c. search needs) (λ c. search needs) (λ c. search needs) (λ c. search needs) (λ c. search needs)
+    (λ c. search needs) (λ c. search needs) loop-again (λ c. copy-whole (c .before .loop .inv) (omega arith)))

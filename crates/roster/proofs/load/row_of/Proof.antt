@@ -19,6 +19,6 @@ abbrev μ-loop : tie.MeasureT-loop
 
 pub row-of-spec : {M : Type 1} → statement M
 row-of-spec =
-    tie.close (tie.spec Inv-loop μ-loop (search needs) (search needs) (λ c. copy-none refl) (search needs) (search needs) (search needs)
-    (search needs) (search needs) (search needs) (search needs) (λ c. copy-next (c .before .before .loop .inv) (omega arith) refl)
-    (λ c. copy-whole (c .before .loop .inv) (omega arith)))
+    tie.close (tie.spec Inv-loop μ-loop (λ c. search needs) (λ c. search needs) (λ c. copy-none refl) (λ c. search needs)
+    (λ c. search needs) (λ c. search needs) (λ c. search needs) (λ c. search needs) (λ c. search needs) (λ c. search needs)
+    (λ c. copy-next (c .before .before .loop .inv) (omega arith) refl) (λ c. copy-whole (c .before .loop .inv) (omega arith)))

@@ -7,4 +7,4 @@ use Rattle.roster.proofs.numbers.decode_link.Tie as tie
 pub decode-link-spec : {M : Type 1} → statement M
 unfolding linkOf
 decode-link-spec =
-    tie.close (tie.spec (search needs) (search needs) (λ c. rw (c .decode-await .ensures, c .before .decode-line .ensures)))
+    tie.close (tie.spec (λ c. search needs) (λ c. search needs) (λ c. rw (c .decode-await .ensures, c .before .decode-line .ensures)))

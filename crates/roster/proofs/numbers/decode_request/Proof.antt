@@ -8,5 +8,5 @@ use Rattle.roster.proofs.numbers.decode_request.Tie as tie
 pub decode-request-spec : {M : Type 1} → statement M
 unfolding requestOf
 decode-request-spec =
-    tie.close (tie.spec (λ c. rw (c .if1 .taken)) (search needs) (search needs)
+    tie.close (tie.spec (λ c. rw (c .if1 .taken)) (λ c. search needs) (λ c. search needs)
     (λ c. rw (ne-eqb _ _ (c .before .if1 .left), c .decode-vmid .ensures)))

@@ -17,5 +17,5 @@ returns-4 c =
 pub decode-standing-spec : {M : Type 1} → statement M
 unfolding statusOf
 decode-standing-spec =
-    tie.close (tie.spec (λ c. rw (c .if1 .taken)) (search needs) (λ c. rw (c .if2 .taken, c .before .decode-vmid .ensures))
-    (λ c. rw (c .if3 .taken, c .before .before .decode-vmid .ensures)) (search needs) returns-4)
+    tie.close (tie.spec (λ c. rw (c .if1 .taken)) (λ c. search needs) (λ c. rw (c .if2 .taken, c .before .decode-vmid .ensures))
+    (λ c. rw (c .if3 .taken, c .before .before .decode-vmid .ensures)) (λ c. search needs) returns-4)

@@ -10,4 +10,4 @@ returns c =
     rw (link-back (line .result) (c .encode-await .result) (line .ensures .1), line .ensures .0, c .encode-await .ensures .0)
 
 pub encode-link-spec : {M : Type 1} → statement M
-encode-link-spec = tie.close (tie.spec (search needs) (search needs) (search needs) (search needs) returns)
+encode-link-spec = tie.close (tie.spec (λ c. search needs) (λ c. search needs) (λ c. search needs) (λ c. search needs) returns)

@@ -16,9 +16,8 @@ returns-4 c =
 pub encode-standing-spec : {M : Type 1} → statement M
 unfolding statusOf
 encode-standing-spec =
-    tie.close (tie.spec (search needs) (search needs) (search needs) (search needs) (search needs) (search needs) (search needs)
-    (search needs) (search needs) (search needs) (search needs) (search needs) (search needs) (search needs) (search needs) (search needs)
-    (λ c. search needs)
+    tie.close (tie.spec (λ c. search needs) (λ c. search needs) (λ c. search needs) (λ c. search needs) (λ c. search needs)
+    (λ c. search needs) (λ c. search needs) (λ c. search needs) (λ c. search needs) (λ c. search needs) (λ c. search needs)
+    (λ c. search needs) (λ c. search needs) (λ c. search needs) (λ c. search needs) (λ c. search needs) (λ c. search needs)
     (λ c. rw (running-back (c .encode-vmid .result), c .encode-vmid .ensures .0) (sym (c .before .before .standing .given .1)))
-    (λ c. rw (ended-back (c .encode-vmid2 .result), c .encode-vmid2 .ensures .0) (sym (c .before .before .standing2 .given .1)))
-    returns-4)
+    (λ c. rw (ended-back (c .encode-vmid2 .result), c .encode-vmid2 .ensures .0) (sym (c .before .before .standing2 .given .1))) returns-4)

@@ -9,4 +9,4 @@ returns : tie.Need-returns
 returns c = (same-vmid (omega arith) (omega arith), omega arith)
 
 pub encode-vmid-spec : {M : Type 1} → statement M
-encode-vmid-spec = tie.close (tie.spec (search needs) (search needs) (search needs) (search needs) returns)
+encode-vmid-spec = tie.close (tie.spec (λ c. search needs) (λ c. search needs) (λ c. search needs) (λ c. search needs) returns)

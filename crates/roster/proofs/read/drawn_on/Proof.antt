@@ -8,6 +8,6 @@ use Rattle.roster.proofs.read.drawn_on.Tie as tie
 pub drawn-on-spec : {M : Type 1} → statement M
 unfolding ranksOf
 drawn-on-spec =
-    tie.close (tie.spec (search needs) (search needs) (search needs) (search needs)
+    tie.close (tie.spec (λ c. search needs) (λ c. search needs) (λ c. search needs) (λ c. search needs)
     (λ c. rw (tabulate-at _ _ _ _ (c .before .before .if1 .taken)) (c .decode-drawn .ensures))
     (λ c. rw (tabulate-past _ _ _ _ (c .if1 .left))))

@@ -14,5 +14,5 @@ returns c =
 pub link-between-spec : {M : Type 1} → statement M
 unfolding ranksOf
 link-between-spec =
-    tie.close (tie.spec (search needs) (search needs) (search needs) (search needs) (search needs) returns
+    tie.close (tie.spec (λ c. search needs) (λ c. search needs) (λ c. search needs) (λ c. search needs) (λ c. search needs) returns
     (λ c. rw (← c .before .cell .ensures, tabulate-past _ _ _ _ (c .if1 .left))))

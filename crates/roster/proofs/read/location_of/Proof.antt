@@ -14,5 +14,5 @@ returns c =
 pub location-of-spec : {M : Type 1} → statement M
 unfolding ranksOf
 location-of-spec =
-    tie.close (tie.spec (search needs) (search needs) (search needs) (search needs) (search needs) returns (search needs)
-    (λ c. rw (← c .before .before .cell .ensures, tabulate-past _ _ _ _ (c .before .if1 .left)) (c .unknown .ensures)))
+    tie.close (tie.spec (λ c. search needs) (λ c. search needs) (λ c. search needs) (λ c. search needs) (λ c. search needs) returns
+    (λ c. search needs) (λ c. rw (← c .before .before .cell .ensures, tabulate-past _ _ _ _ (c .before .if1 .left)) (c .unknown .ensures)))

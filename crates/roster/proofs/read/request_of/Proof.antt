@@ -9,6 +9,6 @@ use Rattle.roster.proofs.read.request_of.Tie as tie
 pub request-of-spec : {M : Type 1} → statement M
 unfolding ranksOf
 request-of-spec =
-    tie.close (tie.spec (search needs) (search needs) (search needs) (search needs) (search needs)
+    tie.close (tie.spec (λ c. search needs) (λ c. search needs) (λ c. search needs) (λ c. search needs) (λ c. search needs)
     (λ c. rw (tabulate-at _ _ _ _ (c .before .before .if1 .taken), request) (c .decode-request .ensures))
     (λ c. rw (tabulate-past _ _ _ _ (c .if1 .left), request)))

@@ -9,6 +9,6 @@ use Rattle.roster.proofs.read.standing_of.Tie as tie
 pub standing-of-spec : {M : Type 1} → statement M
 unfolding ranksOf
 standing-of-spec =
-    tie.close (tie.spec (search needs) (search needs) (search needs) (search needs)
+    tie.close (tie.spec (λ c. search needs) (λ c. search needs) (λ c. search needs) (λ c. search needs)
     (λ c. rw (tabulate-at _ _ _ _ (c .before .before .if1 .taken), status) (c .decode-standing .ensures))
     (λ c. rw (tabulate-past _ _ _ _ (c .if1 .left), status)))

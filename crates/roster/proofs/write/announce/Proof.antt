@@ -35,5 +35,5 @@ returns c =
 
 pub announce-spec : {M : Type 1} → statement M
 announce-spec =
-    tie.close (tie.spec Inv-loop μ-loop (λ c. (omega arith, record { long = c .pre; same = refl })) (search needs) (search needs)
-    (search needs) loop-again returns)
+    tie.close (tie.spec Inv-loop μ-loop (λ c. (omega arith, record { long = c .pre; same = refl })) (λ c. search needs) (λ c. search needs)
+    (λ c. search needs) loop-again returns)

@@ -5,4 +5,5 @@ use Rattle.roster.proofs.write.connect.Tie as tie
 
 pub connect-spec : {M : Type 1} → statement M
 connect-spec =
-    tie.close (tie.spec (search needs) (search needs) (λ c. rw (c .before .before .link-between .ensures) at (c .set-link .ensures)))
+    tie.close (tie.spec (λ c. search needs) (λ c. search needs)
+    (λ c. rw (c .before .before .link-between .ensures) at (c .set-link .ensures)))

@@ -22,5 +22,5 @@ returns c =
 pub set-drawn-spec : {M : Type 1} → statement M
 unfolding ranksOf
 set-drawn-spec =
-    tie.close (tie.spec (search needs) (search needs) (search needs) (search needs) returns
+    tie.close (tie.spec (λ c. search needs) (λ c. search needs) (λ c. search needs) (λ c. search needs) returns
     (λ c. record { long = c .before .pre; same = rw (tabulate-set-past _ _ _ _ (c .if1 .left)) }))

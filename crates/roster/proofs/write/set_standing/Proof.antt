@@ -15,5 +15,5 @@ returns c =
 pub set-standing-spec : {M : Type 1} → statement M
 unfolding ranksOf
 set-standing-spec =
-    tie.close (tie.spec (search needs) (search needs) (search needs) (search needs) returns
+    tie.close (tie.spec (λ c. search needs) (λ c. search needs) (λ c. search needs) (λ c. search needs) returns
     (λ c. record { long = c .before .before .pre; same = rw (tabulate-set-past _ _ _ _ (c .if1 .left)) }))

@@ -163,8 +163,8 @@ returns-12 c =
 
 pub apply-spec : {M : Type 1} → statement M
 apply-spec =
-    tie.close (tie.spec (search needs) start-requires (search needs) (search needs) (search needs) (search needs)
-    (search needs) send-requires (search needs) take-requires (search needs) move-to-requires (search needs)
-    heed-requires (search needs) drain-requires (search needs) land-requires (search needs) part-requires (search needs)
-    (search needs) (search needs) (λ c κs. search needs) returns returns-2 returns-3 returns-4 returns-5 returns-6
-    returns-7 returns-8 returns-9 returns-10 returns-11 returns-12)
+    tie.close (tie.spec (λ c. search needs) start-requires (λ c. search needs) (λ c. search needs) (λ c. search needs) (λ c. search needs)
+    (λ c. search needs) send-requires (λ c. search needs) take-requires (λ c. search needs) move-to-requires (λ c. search needs)
+    heed-requires (λ c. search needs) drain-requires (λ c. search needs) land-requires (λ c. search needs) part-requires (λ c. search needs)
+    (λ c. search needs) (λ c. search needs) (λ c κs. search needs) returns returns-2 returns-3 returns-4 returns-5 returns-6 returns-7
+    returns-8 returns-9 returns-10 returns-11 returns-12)

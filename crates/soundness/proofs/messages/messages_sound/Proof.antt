@@ -133,8 +133,9 @@ returns-5 c =
 
 pub messages-sound-spec : {M : Type 1} → statement M
 messages-sound-spec =
-    tie.close (tie.spec Inv-loop μ-loop returns loop-holds (search needs) (search needs) (search needs) returns-2 (search needs)
-    (search needs) (search needs) (search needs) (search needs) (λ c. omega (arith, c .number .ensures, place-below-four (read c .place)))
-    (λ c. omega (arith, inside c)) (λ c. omega (arith, inside (c .before))) returns-3 (search needs) (λ c. inside (c .before .before) .0)
-    (search needs) array-copy-out-receiver (search needs) (search needs) (search needs) array-copy-out-back (search needs) returns-4
-    array-write-last (search needs) (search needs) loop-again returns-5)
+    tie.close (tie.spec Inv-loop μ-loop returns loop-holds (λ c. search needs) (λ c. search needs) (λ c. search needs) returns-2
+    (λ c. search needs) (λ c. search needs) (λ c. search needs) (λ c. search needs) (λ c. search needs)
+    (λ c. omega (arith, c .number .ensures, place-below-four (read c .place))) (λ c. omega (arith, inside c))
+    (λ c. omega (arith, inside (c .before))) returns-3 (λ c. search needs) (λ c. inside (c .before .before) .0) (λ c. search needs)
+    array-copy-out-receiver (λ c. search needs) (λ c. search needs) (λ c. search needs) array-copy-out-back (λ c. search needs) returns-4
+    array-write-last (λ c. search needs) (λ c. search needs) loop-again returns-5)

@@ -5,4 +5,5 @@ use Rattle.soundness.proofs.messages.place_fits.Statement.{statement}
 use Rattle.soundness.proofs.messages.place_fits.Tie as tie
 
 pub place-fits-spec : {M : Type 1} → statement M
-place-fits-spec = tie.close (tie.spec (search needs) (search needs) (search needs) (search needs) (search needs) (λ c. cc))
+place-fits-spec =
+    tie.close (tie.spec (λ c. search needs) (λ c. search needs) (λ c. search needs) (λ c. search needs) (λ c. search needs) (λ c. cc))

@@ -7,5 +7,5 @@ use Rattle.soundness.proofs.names.are_distinct.Tie as tie
 
 pub are-distinct-spec : {M : Type 1} → statement M
 are-distinct-spec =
-    tie.close (tie.spec (search needs) (search needs) (search needs) (search needs) (search needs) (λ c. search needs) (λ c. search needs)
-    (λ c. cc (and-true (not (c .same .result)))) (λ c. search needs))
+    tie.close (tie.spec (λ c. search needs) (λ c. search needs) (λ c. search needs) (λ c. search needs) (λ c. search needs)
+    (λ c. search needs) (λ c. search needs) (λ c. cc (and-true (not (c .same .result)))) (λ c. search needs))

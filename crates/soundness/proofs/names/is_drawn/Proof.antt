@@ -11,4 +11,5 @@ returns c =
     rw (lt-ltb _ _ (test .if1 .taken))
 
 pub is-drawn-spec : {M : Type 1} → statement M
-is-drawn-spec = tie.close (tie.spec (search needs) (search needs) (search needs) returns (λ c. rw (le-ltb _ _ (c .if1 .left))))
+is-drawn-spec =
+    tie.close (tie.spec (λ c. search needs) (λ c. search needs) (λ c. search needs) returns (λ c. rw (le-ltb _ _ (c .if1 .left))))

@@ -7,5 +7,6 @@ use Rattle.soundness.proofs.names.is_free.Tie as tie
 
 pub is-free-spec : {M : Type 1} → statement M
 is-free-spec =
-    tie.close (tie.spec (search needs) (search needs) (search needs) (search needs) (search needs) (search needs) (search needs)
-    (λ c. search needs) (λ c. cc (and-true (not (c .same .result)))) (λ c. cc (and-true (not (c .same3 .result)))) (λ c. search needs))
+    tie.close (tie.spec (λ c. search needs) (λ c. search needs) (λ c. search needs) (λ c. search needs) (λ c. search needs)
+    (λ c. search needs) (λ c. search needs) (λ c. search needs) (λ c. cc (and-true (not (c .same .result))))
+    (λ c. cc (and-true (not (c .same3 .result)))) (λ c. search needs))

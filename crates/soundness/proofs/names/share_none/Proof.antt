@@ -12,5 +12,6 @@ returns-3 c =
 
 pub share-none-spec : {M : Type 1} → statement M
 share-none-spec =
-    tie.close (tie.spec (search needs) (search needs) (search needs) (search needs) (search needs) (search needs) (search needs)
-    (λ c. search needs) (λ c. rw (c .before .before .one .given .1, c .is-free .ensures, and-true)) returns-3 (λ c. search needs))
+    tie.close (tie.spec (λ c. search needs) (λ c. search needs) (λ c. search needs) (λ c. search needs) (λ c. search needs)
+    (λ c. search needs) (λ c. search needs) (λ c. search needs) (λ c. rw (c .before .before .one .given .1, c .is-free .ensures, and-true))
+    returns-3 (λ c. search needs))

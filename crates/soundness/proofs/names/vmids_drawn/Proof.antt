@@ -7,6 +7,6 @@ use Rattle.soundness.proofs.names.vmids_drawn.Tie as tie
 
 pub vmids-drawn-spec : {M : Type 1} → statement M
 vmids-drawn-spec =
-    tie.close (tie.spec (search needs) (search needs) (search needs) (search needs) (search needs) (search needs) (search needs)
-    (search needs) (λ c. search needs) (λ c. cc (and-true (c .is-drawn .result))) (λ c. cc (and-true (c .is-drawn3 .result)))
-    (λ c. cc (and-true (c .is-drawn4 .result))))
+    tie.close (tie.spec (λ c. search needs) (λ c. search needs) (λ c. search needs) (λ c. search needs) (λ c. search needs)
+    (λ c. search needs) (λ c. search needs) (λ c. search needs) (λ c. search needs) (λ c. cc (and-true (c .is-drawn .result)))
+    (λ c. cc (and-true (c .is-drawn3 .result))) (λ c. cc (and-true (c .is-drawn4 .result))))

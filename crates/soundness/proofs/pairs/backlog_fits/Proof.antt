@@ -5,4 +5,5 @@ use Rattle.soundness.proofs.pairs.backlog_fits.Statement.{statement}
 use Rattle.soundness.proofs.pairs.backlog_fits.Tie as tie
 
 pub backlog-fits-spec : {M : Type 1} → statement M
-backlog-fits-spec = tie.close (tie.spec (search needs) (search needs) (search needs) (search needs) (search needs) (λ c. cc))
+backlog-fits-spec =
+    tie.close (tie.spec (λ c. search needs) (λ c. search needs) (λ c. search needs) (λ c. search needs) (λ c. search needs) (λ c. cc))

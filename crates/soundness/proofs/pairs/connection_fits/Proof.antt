@@ -6,4 +6,5 @@ use Rattle.soundness.proofs.pairs.connection_fits.Tie as tie
 
 pub connection-fits-spec : {M : Type 1} → statement M
 connection-fits-spec =
-    tie.close (tie.spec (search needs) (search needs) (search needs) (search needs) (search needs) (search needs) (λ c. cc))
+    tie.close (tie.spec (λ c. search needs) (λ c. search needs) (λ c. search needs) (λ c. search needs) (λ c. search needs)
+    (λ c. search needs) (λ c. cc))

@@ -5,4 +5,4 @@ use Rattle.soundness.proofs.pairs.holds_nothing.Statement.{statement}
 use Rattle.soundness.proofs.pairs.holds_nothing.Tie as tie
 
 pub holds-nothing-spec : {M : Type 1} → statement M
-holds-nothing-spec = tie.close (tie.spec (search needs) (search needs) (search needs) (search needs) (λ c. cc))
+holds-nothing-spec = tie.close (tie.spec (λ c. search needs) (λ c. search needs) (λ c. search needs) (λ c. search needs) (λ c. cc))

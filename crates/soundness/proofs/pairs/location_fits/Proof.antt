@@ -10,4 +10,5 @@ returns-2 c =
     rw (← started .ensures, c .before .before .if1 .left, c .same .ensures, c .before .unknown .ensures)
 
 pub location-fits-spec : {M : Type 1} → statement M
-location-fits-spec = tie.close (tie.spec (search needs) (search needs) (search needs) (search needs) (λ c. cc) returns-2)
+location-fits-spec =
+    tie.close (tie.spec (λ c. search needs) (λ c. search needs) (λ c. search needs) (λ c. search needs) (λ c. cc) returns-2)

@@ -39,7 +39,7 @@ returns-2 c = sym (cells-pass _ (λ k b. c .before .loop .inv .1 k (omega arith)
 
 pub pairs-sound-spec : {M : Type 1} → statement M
 pairs-sound-spec =
-    tie.close (tie.spec Inv-loop μ-loop (λ c. (omega arith, below-none _)) (search needs) (search needs) (search needs) (search needs)
-    (search needs) (search needs) (search needs) (search needs) (λ c. omega arith) (λ c. omega arith) (λ c. omega arith)
-    (λ c. search needs) (λ c. omega arith) (λ c. omega arith) (search needs) returns (λ c. omega arith) (λ c. omega arith) loop-again
-    returns-2)
+    tie.close (tie.spec Inv-loop μ-loop (λ c. (omega arith, below-none _)) (λ c. search needs) (λ c. search needs) (λ c. search needs)
+    (λ c. search needs) (λ c. search needs) (λ c. search needs) (λ c. search needs) (λ c. search needs) (λ c. omega arith)
+    (λ c. omega arith) (λ c. omega arith) (λ c. search needs) (λ c. omega arith) (λ c. omega arith) (λ c. search needs) returns
+    (λ c. omega arith) (λ c. omega arith) loop-again returns-2)

@@ -7,5 +7,5 @@ use Rattle.soundness.proofs.pairs.vmids_apart.Tie as tie
 
 pub vmids-apart-spec : {M : Type 1} → statement M
 vmids-apart-spec =
-    tie.close (tie.spec (search needs) (search needs) (λ c. rw (eq-eqb _ _ (c .before .if1 .taken), c .are-distinct .ensures))
+    tie.close (tie.spec (λ c. search needs) (λ c. search needs) (λ c. rw (eq-eqb _ _ (c .before .if1 .taken), c .are-distinct .ensures))
     (λ c. rw (ne-eqb _ _ (c .before .if1 .left), c .share-none .ensures)))

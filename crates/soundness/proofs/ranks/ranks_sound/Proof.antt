@@ -37,5 +37,6 @@ returns-2 c = sym (everyRank-of _ (λ r b. c .before .loop .inv .1 (r .0) (omega
 
 pub ranks-sound-spec : {M : Type 1} → statement M
 ranks-sound-spec =
-    tie.close (tie.spec Inv-loop μ-loop (λ c. (omega arith, below-none _)) (search needs) (search needs) (search needs) (search needs)
-    (search needs) (search needs) (search needs) (search needs) returns (search needs) (search needs) loop-again returns-2)
+    tie.close (tie.spec Inv-loop μ-loop (λ c. (omega arith, below-none _)) (λ c. search needs) (λ c. search needs) (λ c. search needs)
+    (λ c. search needs) (λ c. search needs) (λ c. search needs) (λ c. search needs) (λ c. search needs) returns (λ c. search needs)
+    (λ c. search needs) loop-again returns-2)

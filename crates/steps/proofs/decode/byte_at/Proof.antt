@@ -10,4 +10,4 @@ returns-2 c = sym (List·getD-eq-default (c .before .args .log .now) 0 (c .if1 .
 
 pub byte-at-spec : {M : Type 1} → statement M
 byte-at-spec =
-    tie.close (tie.spec (search needs) (search needs) returns-2)
+    tie.close (tie.spec (λ c. search needs) (λ c. search needs) returns-2)

@@ -30,6 +30,6 @@ returns-5 c =
 
 pub decode-spec : {M : Type 1} → statement M
 decode-spec =
-    tie.close (tie.spec (λ c. rw (at-end _ _ (c .if1 .taken))) (search needs)
-    (λ c. rw (no-kind _ _ (c .before .before .if1 .left) (kind-below _ (c .if2 .taken)))) returns-3 (search needs) (search needs)
-    (search needs) returns-4 (search needs) (search needs) returns-5)
+    tie.close (tie.spec (λ c. rw (at-end _ _ (c .if1 .taken))) (λ c. search needs)
+    (λ c. rw (no-kind _ _ (c .before .before .if1 .left) (kind-below _ (c .if2 .taken)))) returns-3 (λ c. search needs) (λ c. search needs)
+    (λ c. search needs) returns-4 (λ c. search needs) (λ c. search needs) returns-5)

@@ -49,5 +49,5 @@ returns-3 c =
 
 pub step-in-place-spec : {M : Type 1} → statement M
 step-in-place-spec =
-    tie.close (tie.spec (search needs) (search needs) (λ c κs. search needs) enum-told (search needs) returns returns-2
+    tie.close (tie.spec (λ c. search needs) (λ c. search needs) (λ c κs. search needs) enum-told (λ c. search needs) returns returns-2
     returns-3)

@@ -46,4 +46,4 @@ returns-2 c =
 
 pub load-spec : {M : Type 1} → statement M
 load-spec =
-    tie.close (tie.spec (search needs) returns load-requires (λ c κs. search needs) returns-2)
+    tie.close (tie.spec (λ c. search needs) returns load-requires (λ c κs. search needs) returns-2)

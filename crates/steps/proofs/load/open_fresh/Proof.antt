@@ -15,4 +15,4 @@ returns c =
 
 pub open-fresh-spec : {M : Type 1} → statement M
 open-fresh-spec =
-    tie.close (tie.spec (search needs) (search needs) returns)
+    tie.close (tie.spec (λ c. search needs) (λ c. search needs) returns)

@@ -37,4 +37,4 @@ returns-2 c =
 
 pub make-room-spec : {M : Type 1} → statement M
 make-room-spec =
-    tie.close (tie.spec (search needs) returns (λ c κs. search needs) load-requires returns-2)
+    tie.close (tie.spec (λ c. search needs) returns (λ c κs. search needs) load-requires returns-2)

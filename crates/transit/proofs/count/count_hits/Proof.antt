@@ -45,5 +45,5 @@ returns c =
 
 pub count-hits-spec : {M : Type 1} → statement M
 count-hits-spec =
-    tie.close (tie.spec Inv-loop μ-loop loop-holds (search needs) (search needs) (search needs) (search needs)
-    (search needs) (search needs) (search needs) add-n (search needs) (search needs) loop-again returns)
+    tie.close (tie.spec Inv-loop μ-loop loop-holds (λ c. search needs) (λ c. search needs) (λ c. search needs) (λ c. search needs)
+    (λ c. search needs) (λ c. search needs) (λ c. search needs) add-n (λ c. search needs) (λ c. search needs) loop-again returns)

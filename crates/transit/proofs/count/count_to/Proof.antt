@@ -19,4 +19,4 @@ returns c =
 
 pub count-to-spec : {M : Type 1} → statement M
 count-to-spec =
-    tie.close (tie.spec (search needs) (search needs) (search needs) (search needs) returns)
+    tie.close (tie.spec (λ c. search needs) (λ c. search needs) (λ c. search needs) (λ c. search needs) returns)

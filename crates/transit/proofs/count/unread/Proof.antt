@@ -10,4 +10,4 @@ returns c = λ v d. c .wide .ensures ∙ unread-in d
 
 pub unread-spec : {M : Type 1} → statement M
 unread-spec =
-    tie.close (tie.spec (search needs) (search needs) returns)
+    tie.close (tie.spec (λ c. search needs) (λ c. search needs) returns)

@@ -25,4 +25,4 @@ returns-3 c =
 
 pub unread-between-spec : {M : Type 1} → statement M
 unread-between-spec =
-    tie.close (tie.spec (search needs) (search needs) (search needs) (search needs) returns returns-2 returns-3)
+    tie.close (tie.spec (λ c. search needs) (λ c. search needs) (λ c. search needs) (λ c. search needs) returns returns-2 returns-3)

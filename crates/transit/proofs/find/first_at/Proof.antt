@@ -53,5 +53,6 @@ returns-4 c =
 
 pub first-at-spec : {M : Type 1} → statement M
 first-at-spec =
-    tie.close (tie.spec returns returns-2 (search needs) (search needs) (search needs) (search needs) (search needs) (search needs)
-    (search needs) (search needs) (search needs) (search needs) (search needs) message-of-requires returns-3 returns-4)
+    tie.close (tie.spec returns returns-2 (λ c. search needs) (λ c. search needs) (λ c. search needs) (λ c. search needs)
+    (λ c. search needs) (λ c. search needs) (λ c. search needs) (λ c. search needs) (λ c. search needs) (λ c. search needs)
+    (λ c. search needs) message-of-requires returns-3 returns-4)

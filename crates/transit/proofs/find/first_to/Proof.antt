@@ -44,5 +44,6 @@ returns-3 c =
 
 pub first-to-spec : {M : Type 1} → statement M
 first-to-spec =
-    tie.close (tie.spec returns (search needs) (search needs) (search needs) (search needs) (search needs) (search needs)
-    (search needs) (search needs) (search needs) (search needs) message-of-requires returns-2 returns-3)
+    tie.close (tie.spec returns (λ c. search needs) (λ c. search needs) (λ c. search needs) (λ c. search needs) (λ c. search needs)
+    (λ c. search needs) (λ c. search needs) (λ c. search needs) (λ c. search needs) (λ c. search needs) message-of-requires returns-2
+    returns-3)

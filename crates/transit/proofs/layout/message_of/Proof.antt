@@ -8,4 +8,4 @@ returns c = rw (c .place-of .ensures)
 
 pub message-of-spec : {M : Type 1} → statement M
 message-of-spec =
-    tie.close (tie.spec (search needs) (search needs) (search needs) returns)
+    tie.close (tie.spec (λ c. search needs) (λ c. search needs) (λ c. search needs) returns)

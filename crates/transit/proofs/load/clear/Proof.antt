@@ -37,7 +37,7 @@ returns c =
 pub clear-spec : {M : Type 1} → statement M
 clear-spec =
     tie.close (tie.spec Inv-loop μ-loop Inv-loop2 μ-loop2 (λ c. (omega arith, empty-none (c .args .slots .now) (c .pre)))
-    (search needs) (search needs) (search needs) (search needs)
-    (λ c. (omega arith, empty-slot (c .before .loop .inv .1) (omega arith))) loop2-holds (search needs) (search needs) (search needs)
-    (search needs) (search needs) (search needs) (search needs) (search needs)
-    (λ c. (omega arith, empty-pair (c .before .loop2 .inv .1) (omega arith))) (search needs) (search needs) returns)
+    (λ c. search needs) (λ c. search needs) (λ c. search needs) (λ c. search needs)
+    (λ c. (omega arith, empty-slot (c .before .loop .inv .1) (omega arith))) loop2-holds (λ c. search needs) (λ c. search needs)
+    (λ c. search needs) (λ c. search needs) (λ c. search needs) (λ c. search needs) (λ c. search needs) (λ c. search needs)
+    (λ c. (omega arith, empty-pair (c .before .loop2 .inv .1) (omega arith))) (λ c. search needs) (λ c. search needs) returns)

@@ -77,5 +77,5 @@ returns c =
 
 pub load-spec : {M : Type 1} → statement M
 load-spec =
-    tie.close (tie.spec Inv-loop μ-loop (λ c κs. c .before .pre .0) loop-holds (search needs) (search needs) put-requires
-    (search needs) (search needs) loop-again returns)
+    tie.close (tie.spec Inv-loop μ-loop (λ c κs. c .before .pre .0) loop-holds (λ c. search needs) (λ c. search needs) put-requires
+    (λ c. search needs) (λ c. search needs) loop-again returns)

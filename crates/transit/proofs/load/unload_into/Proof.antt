@@ -101,7 +101,7 @@ returns c =
 
 pub unload-into-spec : {M : Type 1} → statement M
 unload-into-spec =
-    tie.close (tie.spec Inv-loop μ-loop (search needs) (λ c. omega (arith, tail-within c))
-    (λ c. (omega arith, tail-within c, slots (c .before .args .t) _ (c .before .good .0), refl, refl))
-    (search needs) (search needs) (search needs) (search needs) (search needs) (search needs) (search needs) (search needs)
-    (message-room .0) (message-room .1) (message-room .2) (search needs) (search needs) loop-again returns)
+    tie.close (tie.spec Inv-loop μ-loop (λ c. search needs) (λ c. omega (arith, tail-within c))
+    (λ c. (omega arith, tail-within c, slots (c .before .args .t) _ (c .before .good .0), refl, refl)) (λ c. search needs)
+    (λ c. search needs) (λ c. search needs) (λ c. search needs) (λ c. search needs) (λ c. search needs) (λ c. search needs)
+    (λ c. search needs) (message-room .0) (message-room .1) (message-room .2) (λ c. search needs) (λ c. search needs) loop-again returns)

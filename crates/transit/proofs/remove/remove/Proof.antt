@@ -47,9 +47,9 @@ returns c =
 
 pub remove-spec : {M : Type 1} → statement M
 remove-spec =
-    tie.close (tie.spec (search needs) (search needs) (search needs) (search needs) (λ c. omega (arith, inside (c .before) .0))
-    (λ c. omega (arith, inside (c .before) .0)) (λ c. omega (arith, inside (c .before) .0))
+    tie.close (tie.spec (λ c. search needs) (λ c. search needs) (λ c. search needs) (λ c. search needs)
+    (λ c. omega (arith, inside (c .before) .0)) (λ c. omega (arith, inside (c .before) .0)) (λ c. omega (arith, inside (c .before) .0))
     (λ c. omega (arith, inside (c .before .before) .0)) (λ c. omega (arith, inside (c .before .before) .0))
-    (λ c. omega (arith, inside (c .before .before) .0)) (search needs) (search needs) (search needs) (one-less .0) (search needs)
-    (one-less .1) (written .0) (written .1) (search needs) (search needs) (search needs) (search needs) (search needs) (search needs)
-    (search needs) returns)
+    (λ c. omega (arith, inside (c .before .before) .0)) (λ c. search needs) (λ c. search needs) (λ c. search needs) (one-less .0)
+    (λ c. search needs) (one-less .1) (written .0) (written .1) (λ c. search needs) (λ c. search needs) (λ c. search needs)
+    (λ c. search needs) (λ c. search needs) (λ c. search needs) (λ c. search needs) returns)

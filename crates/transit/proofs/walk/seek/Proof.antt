@@ -43,6 +43,6 @@ loop-again c =
 
 pub seek-spec : {M : Type 1} → statement M
 seek-spec =
-    tie.close (tie.spec Inv-loop μ-loop (search needs) (search needs) (search needs) (search needs) loop-holds
-    (search needs) (search needs) (search needs) returns (search needs) (search needs) (search needs) (search needs)
-    returns-2 (λ c. omega arith) loop-again (λ c x. walk-over (c .before .loop .inv x) (omega arith)))
+    tie.close (tie.spec Inv-loop μ-loop (λ c. search needs) (λ c. search needs) (λ c. search needs) (λ c. search needs) loop-holds
+    (λ c. search needs) (λ c. search needs) (λ c. search needs) returns (λ c. search needs) (λ c. search needs) (λ c. search needs)
+    (λ c. search needs) returns-2 (λ c. omega arith) loop-again (λ c x. walk-over (c .before .loop .inv x) (omega arith)))

@@ -8,4 +8,4 @@ returns-2 c = rw (c .before .before .self .given .1, c .number .ensures)
 
 pub number-spec : {M : Type 1} → statement M
 number-spec =
-    tie.close (tie.spec (search needs) (search needs) (search needs) (λ c. search needs) returns-2)
+    tie.close (tie.spec (λ c. search needs) (λ c. search needs) (λ c. search needs) (λ c. search needs) returns-2)

@@ -14,4 +14,4 @@ returns-2 c = rw (c .enum-told .given .1)
 
 pub values-spec : {M : Type 1} → statement M
 values-spec =
-    tie.close (tie.spec (search needs) enum-told returns returns-2)
+    tie.close (tie.spec (λ c. search needs) enum-told returns returns-2)

@@ -10,4 +10,4 @@ returns-2 c =
 
 pub asks-for-spec : {M : Type 1} → statement M
 asks-for-spec =
-    tie.close (tie.spec (search needs) (search needs) (λ c. search needs) returns-2)
+    tie.close (tie.spec (λ c. search needs) (λ c. search needs) (λ c. search needs) returns-2)

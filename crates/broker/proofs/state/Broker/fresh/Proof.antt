@@ -8,4 +8,4 @@ returns c = rw (c .fresh .ensures)
 
 pub fresh-spec : {M : Type 1} → statement M
 fresh-spec =
-    tie.close (tie.spec (search needs) returns)
+    tie.close (tie.spec (λ c. search needs) returns)

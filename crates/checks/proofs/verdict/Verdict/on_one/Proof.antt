@@ -12,4 +12,4 @@ returns c =
 
 pub on-one-spec : {M : Type 1} → statement M
 on-one-spec =
-    tie.close (tie.spec (search needs) (search needs) (search needs) (search needs) (search needs) returns)
+    tie.close (tie.spec (λ c. search needs) (λ c. search needs) (λ c. search needs) (λ c. search needs) (λ c. search needs) returns)

@@ -17,4 +17,4 @@ returns-3 c = rw (c .before .enum-told .given .1, c .if1 .left)
 
 pub unless-spec : {M : Type 1} → statement M
 unless-spec =
-    tie.close (tie.spec (search needs) enum-told returns returns-2 returns-3)
+    tie.close (tie.spec (λ c. search needs) enum-told returns returns-2 returns-3)
