@@ -5,4 +5,6 @@ use Rattle.soundness.proofs.messages.message_fits.Statement.{statement}
 use Rattle.soundness.proofs.messages.message_fits.Tie as tie
 
 pub message-fits-spec : {M : Type 1} → statement M
-message-fits-spec = tie.close (tie.spec (λ c. search needs) (λ c. search needs) (λ c. search needs) (λ c. cc))
+message-fits-spec =
+    tie.close (tie.spec (λ c. search needs) (λ c. search needs) (λ c. search needs)
+    (λ c. rw (c .place-fits .ensures, c .before .is-live .ensures, c .before .before .is-started .ensures)))

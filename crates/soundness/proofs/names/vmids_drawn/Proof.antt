@@ -8,5 +8,7 @@ use Rattle.soundness.proofs.names.vmids_drawn.Tie as tie
 pub vmids-drawn-spec : {M : Type 1} → statement M
 vmids-drawn-spec =
     tie.close (tie.spec (λ c. search needs) (λ c. search needs) (λ c. search needs) (λ c. search needs) (λ c. search needs)
-    (λ c. search needs) (λ c. search needs) (λ c. search needs) (λ c. search needs) (λ c. cc (and-true (c .is-drawn .result)))
-    (λ c. cc (and-true (c .is-drawn3 .result))) (λ c. cc (and-true (c .is-drawn4 .result))))
+    (λ c. search needs) (λ c. search needs) (λ c. search needs) (λ c. search needs)
+    (λ c. rw (c .before .before .status .given .1, c .is-drawn .ensures, and-true))
+    (λ c. let second = c .before in rw (second .before .before .status2 .given .1, c .is-drawn3 .ensures, second .is-drawn2 .ensures, and-true))
+    (λ c. rw (c .before .before .status3 .given .1, c .is-drawn4 .ensures, and-true)))

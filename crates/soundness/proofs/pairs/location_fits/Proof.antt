@@ -11,4 +11,5 @@ returns-2 c =
 
 pub location-fits-spec : {M : Type 1} → statement M
 location-fits-spec =
-    tie.close (tie.spec (λ c. search needs) (λ c. search needs) (λ c. search needs) (λ c. search needs) (λ c. cc) returns-2)
+    tie.close (tie.spec (λ c. search needs) (λ c. search needs) (λ c. search needs) (λ c. search needs)
+    (λ c. rw (← c .before .before .is-started .ensures, c .before .if1 .taken, c .is-drawn .ensures)) returns-2)

@@ -5,4 +5,8 @@ use Rattle.soundness.proofs.pairs.request_fits.Statement.{statement}
 use Rattle.soundness.proofs.pairs.request_fits.Tie as tie
 
 pub request-fits-spec : {M : Type 1} → statement M
-request-fits-spec = tie.close (tie.spec (λ c. search needs) (λ c. search needs) (λ c. search needs) (λ c. search needs) (λ c. cc))
+request-fits-spec =
+    tie.close (tie.spec (λ c. search needs) (λ c. search needs) (λ c. search needs) (λ c. search needs)
+    (λ c.
+    let running = c .before .before in
+    rw (c .is-closed .ensures, c .before .is-started .ensures, running .is-running .ensures, running .before .asks-for .ensures)))

@@ -5,4 +5,6 @@ use Rattle.soundness.proofs.ranks.nothing_with_self.Statement.{statemen
 use Rattle.soundness.proofs.ranks.nothing_with_self.Tie as tie
 
 pub nothing-with-self-spec : {M : Type 1} → statement M
-nothing-with-self-spec = tie.close (tie.spec (λ c. search needs) (λ c. search needs) (λ c. search needs) (λ c. cc))
+nothing-with-self-spec =
+    tie.close (tie.spec (λ c. search needs) (λ c. search needs) (λ c. search needs)
+    (λ c. rw (c .asks-for .ensures, c .before .is-clear .ensures, c .before .before .is-closed .ensures)))

@@ -5,4 +5,6 @@ use Rattle.soundness.proofs.ranks.rank_sound.Statement.{statement}
 use Rattle.soundness.proofs.ranks.rank_sound.Tie as tie
 
 pub rank-sound-spec : {M : Type 1} → statement M
-rank-sound-spec = tie.close (tie.spec (λ c. search needs) (λ c. search needs) (λ c. search needs) (λ c. cc))
+rank-sound-spec =
+    tie.close (tie.spec (λ c. search needs) (λ c. search needs) (λ c. search needs)
+    (λ c. rw (c .nothing-with-self .ensures, c .before .request-drawn .ensures, c .before .before .vmids-drawn .ensures)))

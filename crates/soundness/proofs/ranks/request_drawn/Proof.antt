@@ -5,4 +5,6 @@ use Rattle.soundness.proofs.ranks.request_drawn.Statement.{statement}
 use Rattle.soundness.proofs.ranks.request_drawn.Tie as tie
 
 pub request-drawn-spec : {M : Type 1} → statement M
-request-drawn-spec = tie.close (tie.spec (λ c. search needs) (λ c. search needs) (λ c. search needs) (λ c. search needs) (λ c. cc))
+request-drawn-spec =
+    tie.close (tie.spec (λ c. search needs) (λ c. search needs) (λ c. search needs) (λ c. search needs)
+    (λ c. let known = c .before in rw (known .before .before .request .given .1, c .is-drawn .ensures)))
