@@ -92,18 +92,27 @@ pub guarded : (a b : Bool) → ifSo a b ≡ true → a ≡ true → b ≡ true
 guarded true b h e = h
 guarded false b h e = absurd (true≢false (sym e))
 
--- where a computed test of every side, two sides or pair passes, what it says holds
+-- where a computed test of every side passes, what it says holds
 pub tested : (p q : Side → Bool) → atSides (λ x. ifSo (p x) (q x)) ≡ true → (x : Side) → p x ≡ true → q x ≡ true
 tested p q h x = guarded (p x) (q x) (at-side (λ x. ifSo (p x) (q x)) h x)
 
-pub tested-two : (p q : Side → Side → Bool) → atSides (λ x. atSides (λ y. ifSo (p x y) (q x y))) ≡ true
-    → (x y : Side) → p x y ≡ true → q x y ≡ true
-tested-two p q h x y = tested (p x) (q x) (at-side (λ x. atSides (λ y. ifSo (p x y) (q x y))) h x) y
+-- a side of which it is seen whether it is started, and its connection; a test of every side and such a second one
+abbrev seen : Bool → Connection → Side
+seen i c = record { started = i; runs = false; migrates = false; link = record { connection = c; backlog = Clear }; asks = false }
+
+pub tested-seen : (p q : Side → Side → Bool)
+    → every (λ i. every (λ c. atSides (λ x. ifSo (p x (seen i c)) (q x (seen i c)))) connections) answers ≡ true
+    → (x y : Side) → let z = seen (y .started) (y .link .connection) in p x z ≡ true → q x z ≡ true
+tested-seen p q h x y =
+    let at : Bool → Connection → Bool = λ i c. atSides (λ x. ifSo (p x (seen i c)) (q x (seen i c))) in
+    let z = seen (y .started) (y .link .connection) in
+    tested (λ x. p x z) (λ x. q x z)
+    (at-connection (at (y .started)) (at-answer (λ i. every (at i) connections) h (y .started)) (y .link .connection)) x
 
 -- a pair that fits has a first side that fits alone
 alone : (x y : Side) → pairFits x y ≡ true → sideFits x ≡ true
 unfolding pairFits
-alone = tested-two pairFits (λ x y. sideFits x) refl
+alone = tested-seen pairFits (λ x y. sideFits x) refl
 
 pub tested-pair : (p q : Side → Side → Bool) → atPairs (λ x y. ifSo (p x y) (q x y)) ≡ true → (x y : Side)
     → standsSo x ≡ true → standsSo y ≡ true → pairFits x y ≡ true → pairFits y x ≡ true → p x y ≡ true → q x y ≡ true

@@ -36,7 +36,7 @@ use Rattle.broker.specs.Connect.{call, route, part, onChannel}
 use Rattle.broker.specs.Laws.Accepted
 use Rattle.broker.specs.Laws.Changes.{shift}
 use Rattle.broker.specs.Laws.Effect.{Effect, pairs-stay, placedAnew, Unbarred, messages-stay, order-stays}
-use Rattle.broker.specs.Laws.Fit.{at-place, guarded, tested-two, tested-pair, stands, pair-fits, pairs-from-fits, messages-fit, fits}
+use Rattle.broker.specs.Laws.Fit.{at-place, guarded, tested-seen, tested-pair, stands, pair-fits, pairs-from-fits, messages-fit, fits}
 use Rattle.broker.specs.Laws.Kept.Effects
 use Rattle.broker.specs.Laws.Kept.Order.{InOrder, append-keeps, without-keeps, first-keeps}
 use Rattle.broker.specs.Laws.Links.{sender-of, receiver-of}
@@ -85,7 +85,7 @@ sent-fits x y sx sy p q h =
 drained-fits : (x y : Side) (p : Place) → samePlace p SourceChannel ≡ true → messageFits p x y ≡ true → messageFits SourceList x y ≡ true
 unfolding messageFits
 drained-fits x y SourceList e h = h
-drained-fits x y SourceChannel e h = tested-two (messageFits SourceChannel) (messageFits SourceList) refl x y h
+drained-fits x y SourceChannel e h = tested-seen (messageFits SourceChannel) (messageFits SourceList) refl x y h
 drained-fits x y EndList e h = absurd (not-both e refl)
 drained-fits x y Channel e h = absurd (not-both e refl)
 
