@@ -8,4 +8,5 @@ use Rattle.soundness.proofs.names.are_distinct.Tie as tie
 pub are-distinct-spec : {M : Type 1} → statement M
 are-distinct-spec =
     tie.close (tie.spec (λ c. search needs) (λ c. search needs) (λ c. search needs) (λ c. search needs) (λ c. search needs)
-    (λ c. search needs) (λ c. search needs) (λ c. rw (c .before .before .status .given .1, c .same .ensures, and-true, and-true)) (λ c. search needs))
+    (λ c. search needs) (λ c. search needs) (λ c. rw (c .before .before .status .given .1, c .same .ensures, and-true, and-true))
+    (λ c. search needs))

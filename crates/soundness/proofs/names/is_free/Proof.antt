@@ -9,5 +9,5 @@ pub is-free-spec : {M : Type 1} → statement M
 is-free-spec =
     tie.close (tie.spec (λ c. search needs) (λ c. search needs) (λ c. search needs) (λ c. search needs) (λ c. search needs)
     (λ c. search needs) (λ c. search needs) (λ c. search needs) (λ c. rw (c .before .before .status .given .1, c .same .ensures, and-true))
-    (λ c. let second = c .before in rw (second .before .before .status2 .given .1, c .same3 .ensures, second .same2 .ensures, and-true))
+    (λ c. let one = c .before in rw (one .before .before .status2 .given .1, c .same3 .ensures, one .same2 .ensures, and-true))
     (λ c. search needs))

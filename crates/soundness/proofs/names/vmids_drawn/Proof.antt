@@ -10,5 +10,5 @@ vmids-drawn-spec =
     tie.close (tie.spec (λ c. search needs) (λ c. search needs) (λ c. search needs) (λ c. search needs) (λ c. search needs)
     (λ c. search needs) (λ c. search needs) (λ c. search needs) (λ c. search needs)
     (λ c. rw (c .before .before .status .given .1, c .is-drawn .ensures, and-true))
-    (λ c. let second = c .before in rw (second .before .before .status2 .given .1, c .is-drawn3 .ensures, second .is-drawn2 .ensures, and-true))
+    (λ c. let one = c .before in rw (one .before .before .status2 .given .1, c .is-drawn3 .ensures, one .is-drawn2 .ensures, and-true))
     (λ c. rw (c .before .before .status3 .given .1, c .is-drawn4 .ensures, and-true)))
