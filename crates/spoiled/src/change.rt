@@ -11,21 +11,23 @@ use crate::word::word_of;
 use broker::process::Vmid;
 use broker::state::Broker;
 use libc::STDOUT_FILENO;
+use transit::CELLS;
 use transit::Message;
+use transit::RANKS;
 use transit::Transit;
 
 // The place of a rank among sixteen. The list names no other where a state has a place for each.
 fn place_of(a: u64) -> usize
     ensures { λ r. ⌜ r < ranks ⌝ }
 {
-    (a % 16) as usize
+    a as usize % RANKS
 }
 
 // The place of what a rank has towards another.
 fn cell(a: u64, b: u64) -> usize
     ensures { λ r. ⌜ r < cells ⌝ }
 {
-    16 * place_of(a) + place_of(b)
+    RANKS * place_of(a) + place_of(b)
 }
 
 fn with_process(broker: Broker, word: Word, n: [u64; 5]) -> Broker {
@@ -46,7 +48,7 @@ fn with_link(broker: Broker, word: Word, n: [u64; 5]) -> Broker {
 
 fn with_entry(broker: Broker, at: usize, v: Vmid) -> Broker {
     let mut next = broker;
-    if at < 256 {
+    if at < CELLS {
         next.locations[at] = v;
     }
     next
@@ -54,15 +56,15 @@ fn with_entry(broker: Broker, at: usize, v: Vmid) -> Broker {
 
 fn with_entries(broker: Broker, b: u64, v: Vmid) -> Broker {
     let mut next = broker;
-    for a in 0..16u64 {
-        next = with_entry(next, cell(a, b), v);
+    for a in 0..RANKS {
+        next = with_entry(next, cell(a as u64, b), v);
     }
     next
 }
 
 fn with_drawn(broker: Broker, host: u64, numbers: u64) -> Broker {
     let mut next = broker;
-    let at = (host % 8) as usize;
+    let at = (host % Broker::HOSTS as u64) as usize;
     next.drawn[at] = (numbers % 65536) as u16;
     next
 }

@@ -23,6 +23,9 @@ pub enum Word {
     Unknown,
 }
 
+// The words of a list, eight in each half of their letters.
+const WORDS: usize = 16;
+
 // The byte at a position, and a space past the end.
 fn byte_at(text: &[u8], at: usize) -> u8 {
     if at < text.len() { text[at] } else { b' ' }
@@ -54,14 +57,14 @@ fn starts_with(text: &[u8], number: usize) -> bool {
     false
 }
 
-// The number of the word that a line starts with, and 16 where it is none of them.
+// The number of the word that a line starts with, and their count where it is none of them.
 fn number_of(text: &[u8]) -> usize {
-    for number in 0..16usize {
+    for number in 0..WORDS {
         if starts_with(text, number) {
             return number;
         }
     }
-    16
+    WORDS
 }
 
 pub fn word_of(text: &[u8]) -> Word {
