@@ -1,5 +1,6 @@
 // Counts the answers to the log on standard input by their numbers, and prints each number that came with its count.
 use broker::state::Broker;
+use libc::STDERR_FILENO;
 use libc::STDIN_FILENO;
 use libc::STDOUT_FILENO;
 use steps::step;
@@ -22,10 +23,13 @@ fn tell(number: usize, count: u32) {
     }
 }
 
-// The log is read up to 65,536 bytes. No number is above 25: the test in the loop spares the proof of that.
+// The log is read as far as the buffer goes. No number is above 25: the test in the loop spares the proof of that.
 fn main() {
     let mut log = io::large_buffer();
     let end = io::read_full(STDIN_FILENO, &mut log);
+    if end == log.len() {
+        io::write_all(STDERR_FILENO, b"tally: the log is cut at 65,536 bytes\n");
+    }
     let mut counts = [0u32; NUMBERS];
     let mut broker = Broker::fresh();
     let mut at: usize = 0;

@@ -87,6 +87,23 @@ fn it_works_from_any_folder_and_through_a_link() {
     }
 }
 
+/// A path with the tools that the script needs, and no cargo.
+#[test]
+fn a_missing_cargo_is_named() {
+    let tools = format!("{}/without-cargo", env!("CARGO_TARGET_TMPDIR"));
+    let _ = fs::remove_dir_all(&tools);
+    fs::create_dir(&tools).unwrap();
+    for tool in ["bash", "readlink", "dirname"] {
+        symlink(format!("/usr/bin/{tool}"), format!("{tools}/{tool}")).unwrap();
+    }
+    let Some(end) = shell(&format!("PATH='{tools}' ./run")) else {
+        return;
+    };
+    assert_eq!((end.status, &end.printed[..]), (Some(1), ""));
+    let said = "./run: cargo is not installed: Rust is needed, see README.md, Prerequisites\n";
+    assert_eq!(end.said, said);
+}
+
 #[test]
 fn a_file_whose_name_begins_with_a_dash_can_be_named() {
     file_with("-log", &[0x01, 0, 0]);

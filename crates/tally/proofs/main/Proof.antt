@@ -18,7 +18,7 @@ abbrev μ-loop2 : tie.MeasureT-loop2
 
 pub main-spec : {M : Type 1} → statement M
 main-spec =
-    tie.close (tie.spec Inv-loop μ-loop Inv-loop2 μ-loop2 (search needs) (search needs) (search needs) (search needs) (search needs)
+    tie.close (tie.spec Inv-loop μ-loop Inv-loop2 μ-loop2 (search needs) (search needs) (search needs) (search needs)
     (search needs) (search needs) (search needs) (search needs) (search needs) (search needs) (search needs) (search needs)
     (search needs) (search needs) (search needs) (search needs) (search needs) (search needs) (search needs) (search needs)
-    (search needs) (search needs) (search needs) (search needs))
+    (search needs) (search needs) (search needs) (search needs) (search needs) (search needs) (search needs))
