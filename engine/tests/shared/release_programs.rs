@@ -1,9 +1,10 @@
 //! The programs that `./run` builds for itself, where it looks for them.
 
 use std::env;
-use std::process::Command;
+use std::process::{Command, Stdio};
 
-/// Builds them there.
+/// Builds them there, and the proved program anew if it is old, so that a
+/// `./run` of a test has nothing to build and says nothing of it.
 pub fn build_release() {
     let built = Command::new(env::var_os("CARGO").unwrap_or("cargo".into()))
         .args(["build", "--release", "--offline", "--quiet"])
@@ -11,4 +12,10 @@ pub fn build_release() {
         .current_dir(env!("CARGO_MANIFEST_DIR"))
         .status();
     assert!(built.unwrap().success(), "the programs cannot be built");
+    let ran = Command::new(concat!(env!("CARGO_MANIFEST_DIR"), "/../run"))
+        .stdin(Stdio::null())
+        .stdout(Stdio::null())
+        .stderr(Stdio::null())
+        .status();
+    assert!(ran.unwrap().success(), "the proved program cannot be built");
 }
