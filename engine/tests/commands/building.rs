@@ -18,7 +18,10 @@ struct Repository {
 
 const KIT: &str = r#"#!/bin/sh
 echo "$@" >>calls
-[ ! -e broken ] || { echo "rt: base proved (1 s)"; echo "crates/replay/src/main.rt:1: error"; echo "rt: FAILED: replay"; exit 1; }
+if [ -e broken ]; then
+    cat broken
+    exit 1
+fi
 echo "rt: base proved (1 s)"
 for line in 1 2 3 4 5 6 7 8 9; do echo "fn base::f$line: proved"; done
 echo "rt: replay proved (2 s)"
@@ -117,23 +120,54 @@ fn a_change_elsewhere_builds_nothing() {
     assert_eq!(repository.with_kit(), ran(""));
 }
 
+/// What the kit says of a failure, and what is shown of it.
+const FAILURE: &str = "\
+rt: base proved (unchanged since it was last proved)
+fn lines::put: proved
+crates/lines/src/lib.rt:1: error
+rt: lines NOT PROVED (exit 1, 2 s)
+fn page::put: proved
+library base: modules loaded=1 checked=0
+logic=proved functions=1
+rt: page proved (1 s)
+rt: replay NOT PROVED: its dependency lines is not proved
+rt: FAILED: lines replay
+";
+const SHOWN: &str = "\
+building the program, some minutes where all is new; proved: page
+the program cannot be built:
+crates/lines/src/lib.rt:1: error
+rt: lines NOT PROVED (exit 1, 2 s)
+rt: replay NOT PROVED: its dependency lines is not proved
+rt: FAILED: lines replay
+";
+
 #[test]
 fn a_failed_build_is_told_and_tried_again() {
     let repository = Repository::new("failed");
-    repository.write("broken", "");
-    let said = "building the program, some minutes where all is new; proved: base\n\
-        the program cannot be built:\n\
-        crates/replay/src/main.rt:1: error\nrt: FAILED: replay\n";
+    repository.write("broken", FAILURE);
     for calls in [1, 2] {
         let end = repository.with_kit();
         assert_eq!(
             (end.status, &end.printed[..], &end.said[..]),
-            (Some(1), "", said)
+            (Some(1), "", SHOWN)
         );
         assert_eq!(repository.calls(), calls);
     }
     fs::remove_file(repository.folder.join("broken")).unwrap();
     assert_eq!(repository.with_kit(), ran(BUILT));
+}
+
+/// The first forty lines are shown: the first error is the one to mend.
+#[test]
+fn a_long_failure_is_cut() {
+    let repository = Repository::new("failed-at-length");
+    let errors: Vec<String> = (1..100).map(|line| format!("x.rt:{line}: error")).collect();
+    repository.write("broken", &errors.join("\n"));
+    let end = repository.with_kit();
+    let shown = errors[..40].join("\n");
+    let said = format!("the program cannot be built:\n{shown}\n");
+    assert_eq!((end.status, end.said), (Some(1), said));
 }
 
 #[test]

@@ -102,7 +102,7 @@ fn build(root: &Path) -> Result<(), Failure> {
             _ => Failure::Told(format!("rt cannot be run: {error}")),
         })?;
     let said = BufReader::new(rt.stdout.take().expect("standard output is piped"));
-    let mut progress = Progress::new();
+    let mut progress = Progress::default();
     for line in said.lines().map_while(Result::ok) {
         progress.heard(&line);
     }
@@ -112,36 +112,33 @@ fn build(root: &Path) -> Result<(), Failure> {
 
 const NO_KIT: &str = "rt is not installed: the program is built with the kit of Rattle, see README.md, Prerequisites";
 
-/// What the build says, in short.
+/// What the build says, in short: the crates that it proves, and where it
+/// fails the first lines that speak of something else.
+#[derive(Default)]
 struct Progress {
     began: bool,
-    lines: Vec<String>,
+    wrong: Vec<String>,
 }
 
 impl Progress {
-    fn new() -> Progress {
-        Progress {
-            began: false,
-            lines: Vec::new(),
+    fn heard(&mut self, line: &str) {
+        let proved = line
+            .strip_prefix("rt: ")
+            .and_then(|said| said.split_once(" proved ("));
+        match proved {
+            Some((_, how)) if how.starts_with("unchanged") => {}
+            Some((name, _)) => self.add(name),
+            None if self.wrong.len() == SHOWN_OF_A_FAILURE || goes_well(line) => {}
+            None => self.wrong.push(line.to_owned()),
         }
     }
 
-    fn heard(&mut self, line: &str) {
-        let name = line
-            .strip_prefix("rt: ")
-            .and_then(|said| said.split_once(" proved ("))
-            .filter(|(_, how)| !how.starts_with("unchanged"));
-        match name {
-            Some((name, _)) => {
-                if !self.began {
-                    say("building the program, some minutes where all is new; proved:");
-                    self.began = true;
-                }
-                say(&format!(" {name}"));
-                self.lines.clear();
-            }
-            None => self.lines.push(line.to_owned()),
+    fn add(&mut self, name: &str) {
+        if !self.began {
+            say("building the program, some minutes where all is new; proved:");
+            self.began = true;
         }
+        say(&format!(" {name}"));
     }
 
     fn end(self, proved: bool) -> Result<(), Failure> {
@@ -151,12 +148,18 @@ impl Progress {
         if proved {
             return Ok(());
         }
-        let shown = self.lines.len().min(SHOWN_OF_A_FAILURE);
-        let wrong = self.lines[self.lines.len() - shown..].join("\n");
+        let wrong = self.wrong.join("\n");
         Err(Failure::Told(format!(
             "the program cannot be built:\n{wrong}"
         )))
     }
+}
+
+/// Whether a line of the kit says of a function, a library or the proof as a
+/// whole that all is well.
+fn goes_well(line: &str) -> bool {
+    let beginnings = ["library ", "logic /", "logic=proved", "linked ", "axioms "];
+    line.ends_with(": proved") || beginnings.iter().any(|first| line.starts_with(first))
 }
 
 fn say(text: &str) {
