@@ -99,7 +99,7 @@ fn complain(line: &[u8]) {
 }
 
 // The state after a line of the list.
-pub fn changed(broker: Broker, line: &[u8]) -> Broker {
+pub(crate) fn changed(broker: Broker, line: &[u8]) -> Broker {
     let n = numbers_in(line);
     let word = word_of(line);
     match word {

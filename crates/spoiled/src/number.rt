@@ -43,7 +43,7 @@ impl Reading {
 }
 
 // The five words after the first, each as a number: 0 where it has no digits or there is none.
-pub fn numbers_in(text: &[u8]) -> [u64; 5] {
+pub(crate) fn numbers_in(text: &[u8]) -> [u64; 5] {
     let mut reading = Reading {
         word: 0,
         numbers: [0u64; 5],

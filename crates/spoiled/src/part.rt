@@ -15,12 +15,12 @@ fn rank(n: u64) -> Rank {
     Rank((n % 256) as u8)
 }
 
-pub fn vmid(host: u64, number: u64) -> Vmid {
+pub(crate) fn vmid(host: u64, number: u64) -> Vmid {
     Vmid((host % 256) as u8, (number % 65536) as u16)
 }
 
 // What a rank is, and its call.
-pub fn process_after(process: Process, word: Word, n: [u64; 5]) -> Process {
+pub(crate) fn process_after(process: Process, word: Word, n: [u64; 5]) -> Process {
     let status = process.status;
     let request = process.request;
     match word {
@@ -44,7 +44,7 @@ pub fn process_after(process: Process, word: Word, n: [u64; 5]) -> Process {
 }
 
 // A rank's line to another, and its await of it.
-pub fn link_after(link: Link, word: Word) -> Link {
+pub(crate) fn link_after(link: Link, word: Word) -> Link {
     let connection = link.connection;
     let backlog = link.backlog;
     match word {
@@ -76,7 +76,7 @@ fn place(n: u64) -> Place {
     }
 }
 
-pub fn message(sender: u64, receiver: u64, at: u64, value: u64) -> Message {
+pub(crate) fn message(sender: u64, receiver: u64, at: u64, value: u64) -> Message {
     Message {
         sender: rank(sender),
         receiver: rank(receiver),

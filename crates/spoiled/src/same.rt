@@ -7,8 +7,12 @@ use broker::process::Request;
 use broker::process::Status;
 use broker::process::Vmid;
 use broker::state::Broker;
+use transit::CELLS;
 use transit::Message;
+use transit::RANKS;
 use transit::Transit;
+
+const HOSTS: usize = Broker::HOSTS as usize;
 
 fn standing(s: Status) -> u8 {
     match s {
@@ -86,7 +90,7 @@ fn same_message(m: Message, n: Message) -> bool {
 }
 
 fn same_processes(a: Broker, b: Broker) -> bool {
-    for i in 0..16usize {
+    for i in 0..RANKS {
         let p = a.processes[i];
         let q = b.processes[i];
         if !same_process(p, q) {
@@ -97,7 +101,7 @@ fn same_processes(a: Broker, b: Broker) -> bool {
 }
 
 fn same_locations(a: Broker, b: Broker) -> bool {
-    for i in 0..256usize {
+    for i in 0..CELLS {
         let v = a.locations[i];
         let w = b.locations[i];
         if !v.same(w) {
@@ -108,7 +112,7 @@ fn same_locations(a: Broker, b: Broker) -> bool {
 }
 
 fn same_links(a: Broker, b: Broker) -> bool {
-    for i in 0..256usize {
+    for i in 0..CELLS {
         let l = a.links[i];
         let m = b.links[i];
         if !same_link(l, m) {
@@ -119,7 +123,7 @@ fn same_links(a: Broker, b: Broker) -> bool {
 }
 
 fn same_drawn(a: Broker, b: Broker) -> bool {
-    for i in 0..8usize {
+    for i in 0..HOSTS {
         if a.drawn[i] != b.drawn[i] {
             return false;
         }
@@ -132,7 +136,7 @@ fn same_transit(a: Transit, b: Transit) -> bool {
     if a.count != b.count {
         return false;
     }
-    for i in 0..1024usize {
+    for i in 0..Transit::LIMIT {
         let m = a.messages[i];
         let n = b.messages[i];
         if !same_message(m, n) {
@@ -142,7 +146,7 @@ fn same_transit(a: Transit, b: Transit) -> bool {
     true
 }
 
-pub fn same(a: Broker, b: Broker) -> bool {
+pub(crate) fn same(a: Broker, b: Broker) -> bool {
     let before = a.transit;
     let after = b.transit;
     same_processes(a, b)

@@ -6,7 +6,7 @@ use steps::step;
 
 // The state is handed to a step at the end of an empty log, where a sound state is answered with 3 and an unsound one with 1. Either way
 // the position stays, and the very state comes back.
-pub fn tell(name: &[u8], broker: Broker) {
+pub(crate) fn tell(name: &[u8], broker: Broker) {
     let log = [0u8; 0];
     let stepped = step(broker, &log, 0);
     let answer = stepped.answer;

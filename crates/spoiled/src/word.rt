@@ -67,7 +67,7 @@ fn number_of(text: &[u8]) -> usize {
     WORDS
 }
 
-pub fn word_of(text: &[u8]) -> Word {
+pub(crate) fn word_of(text: &[u8]) -> Word {
     if text.len() == 0 {
         return Word::Remark;
     }

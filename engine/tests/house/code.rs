@@ -76,8 +76,8 @@ fn plain_import(line: usize, content: &str) -> Option<PlainImport<'_>> {
     Some(PlainImport { line, path, local })
 }
 
-/// The words of the plain part outside of imports: names, `::`, and every other
-/// sign by itself; quoted bytes are left out.
+/// The words of the plain part outside of imports: names, `::`, `..`, and every
+/// other sign by itself; quoted bytes are left out.
 pub fn plain_words(plain: &str) -> Vec<&str> {
     let imports = import_lines(plain);
     let lines = (1..).zip(plain.lines());
@@ -103,6 +103,7 @@ fn word_length(rest: &str) -> usize {
     match rest.chars().next() {
         Some('"') => quoted_length(rest),
         Some(':') if rest.starts_with("::") => 2,
+        Some('.') if rest.starts_with("..") => 2,
         Some(first) if !is_letter(first) => first.len_utf8(),
         _ => rest.find(|c| !is_letter(c)).unwrap_or(rest.len()),
     }

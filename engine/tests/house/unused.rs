@@ -70,6 +70,8 @@ mod tests {
         assert_eq!(names("x.antt", text), [""; 0]);
         let text = "ghost use a.{b};\nuse c::D;\nfn f(x: D)\n    ensures { ⌜ b x ⌝ }\n{ x }";
         assert_eq!(names("x.rt", text), [""; 0]);
+        let text = "use a::B;\nfn f() {\n    for i in 0..B {}\n}";
+        assert_eq!(names("x.rt", text), [""; 0]);
     }
 
     #[test]
