@@ -1,8 +1,8 @@
--- The kinds of the step log, "Kinds are hexadecimal", and how long the body of each is. Paper 01, "The step log".
+-- The kinds of the step log, "Kinds are hexadecimal", and the fields that the body of each has. Paper 01, "The step log".
 -- Assumes nothing.
 use mathlib.Core.Bool.{Bool, false, _&&_, _||_}
-use mathlib.Core.List.{List, [], _∷_}
-use Prim.Native.Nat.{ℕ}
+use mathlib.Core.List.{List, [], _∷_, map}
+use Prim.Native.Nat.{ℕ, _+_}
 use lib.Dec.{eqb, leb}
 use lib.ListN.{getD}
 
@@ -50,6 +50,43 @@ abbrev pub oneOf : List ℕ → ℕ → Bool
 oneOf [] k = false
 oneOf (x ∷ xs) k = eqb k x || oneOf xs k
 
--- "a body whose length the kind fixes. Ranks and hosts are one byte each; the value is four bytes": by kind, from 01
+-- what stands in a body
+pub data Field : Type 0 where
+  rankByte : Field
+  hostByte : Field
+  valueBytes : Field
+
+-- "Ranks and hosts are one byte each; the value is four bytes"
+abbrev pub fieldLength : Field → ℕ
+fieldLength rankByte = 1
+fieldLength hostByte = 1
+fieldLength valueBytes = 4
+
+-- how long fields are in a row
+abbrev pub fieldsLength : List Field → ℕ
+fieldsLength [] = 0
+fieldsLength (f ∷ fs) = fieldLength f + fieldsLength fs
+
+-- the bodies as the paper lists them, by kind from 01: "start r h", "call a b", "route a b", "send a b value", "take b a", "move r h",
+-- "heed b r", "drain r s", "land r", "part a b", "end r", "look r"
+abbrev pub bodies : List (List Field)
+bodies =
+    [] ∷ rankAndHost ∷ twoRanks ∷ twoRanks ∷ (rankByte ∷ rankByte ∷ valueBytes ∷ []) ∷ twoRanks ∷ rankAndHost ∷ twoRanks ∷ twoRanks
+    ∷ oneRank ∷ twoRanks ∷ oneRank ∷ oneRank ∷ []
+  where
+    oneRank : List Field
+    oneRank = rankByte ∷ []
+
+    twoRanks : List Field
+    twoRanks = rankByte ∷ rankByte ∷ []
+
+    rankAndHost : List Field
+    rankAndHost = rankByte ∷ hostByte ∷ []
+
+-- the fields of a kind's body, in order
+abbrev pub fieldsOf : ℕ → List Field
+fieldsOf k = getD bodies k []
+
+-- "a body whose length the kind fixes"
 abbrev pub bodyLength : ℕ → ℕ
-bodyLength k = getD (0 ∷ 2 ∷ 2 ∷ 2 ∷ 6 ∷ 2 ∷ 2 ∷ 2 ∷ 2 ∷ 1 ∷ 2 ∷ 1 ∷ 1 ∷ []) k 0
+bodyLength k = getD (map fieldsLength bodies) k 0

@@ -19,6 +19,7 @@ pub mod Names
 pub mod Opened
 pub mod Quiet
 pub mod Ranks
+pub mod Record
 pub mod Sound
 pub mod Standings
 pub mod State

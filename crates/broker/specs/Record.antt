@@ -2,7 +2,7 @@
 -- Assumes nothing.
 use mathlib.Core.Bool.{cond}
 use mathlib.Core.List.{List, [], _∷_}
-use Prim.Native.Nat.{ℕ, _+_, _*_}
+use Prim.Native.Nat.{ℕ, _+_, _*_, _/_, _%_}
 use lib.Dec.{eqb, leb, ltb}
 use lib.ListN.{length, getD}
 use Rattle.transit.specs.declared.Rank.{Rank}
@@ -16,6 +16,10 @@ use Rattle.broker.specs.declared.record.Record.the-variants.{Start, Call
 -- "the value is four bytes, least significant first"
 abbrev pub valueOf : ℕ → ℕ → ℕ → ℕ → ℕ
 valueOf b0 b1 b2 b3 = b0 + 256 * b1 + 65536 * b2 + 16777216 * b3
+
+-- the same the other way: the four bytes of a value
+abbrev pub bytesOf : ℕ → List ℕ
+bytesOf v = v % 256 ∷ v / 256 % 256 ∷ v / 65536 % 256 ∷ v / 16777216 % 256 ∷ []
 
 -- the record of a kind from 01 to 0C whose body starts at a position
 abbrev pub recordOf : ℕ → List ℕ → ℕ → Record

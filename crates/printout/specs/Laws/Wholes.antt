@@ -14,7 +14,7 @@ use Rattle.broker.specs.declared.answer.Answer.{Answer}
 use Rattle.broker.specs.declared.record.Decoded.{Decoded}
 use Rattle.broker.specs.declared.record.Decoded.the-variants.{Whole, Unknown, Cut}
 use Rattle.broker.specs.declared.record.Record.{Record}
-use Rattle.steps.specs.Record.{at-end}
+use Rattle.broker.specs.Laws.Record.{at-end}
 use Rattle.printout.specs.Laws.Window.{moved, moved-same, stands, whole-stays, decode-dropped}
 use Rattle.printout.specs.Run.{Came, Naming, standing, behind}
 use Rattle.printout.specs.Wholes.{isWhole, answeredAt, settled, onRead, wholes, allWholes}

@@ -16,7 +16,7 @@ use Rattle.broker.specs.Record.{decode, recordOf}
 use Rattle.broker.specs.declared.record.Decoded.{Decoded}
 use Rattle.broker.specs.declared.record.Decoded.the-variants.{Whole, Unknown, Cut}
 use Rattle.broker.specs.declared.record.Record.{Record}
-use Rattle.steps.specs.Record.{whole, no-kind, cut-short, at-end}
+use Rattle.broker.specs.Laws.Record.{whole, no-kind, cut-short, at-end}
 use Rattle.printout.specs.Wholes.{isWhole, reason}
 
 -- what stands at a position, with the tests that say so

@@ -1,5 +1,5 @@
 -- `printout::ending::reason_of` meets its contract: each reason is the definition's, by the tests that led to it. Assumes nothing.
-use Rattle.steps.specs.Record.{kind-below, kind-above, kind-between}
+use Rattle.broker.specs.Laws.Record.{kind-below, kind-above, kind-between}
 use Rattle.printout.proofs.ending.reason_of.Statement.{statement}
 use Rattle.printout.proofs.ending.reason_of.Tie as tie
 

@@ -6,7 +6,7 @@ use native.Mathlib.Numerals.{add-one}
 use native.Mathlib.Omega.{arith}
 use borrow.Author.Needs.{needs}
 use lib.ListN.{length}
-use Rattle.steps.specs.Record.{at-end}
+use Rattle.broker.specs.Laws.Record.{at-end}
 use Rattle.checks.specs.Desk.{deskOf, Desk}
 use Rattle.printout.specs.Laws.Ran.{some-none, some-more}
 use Rattle.printout.specs.Laws.Window.{stands}

@@ -1,7 +1,7 @@
 -- `steps::decode::decode` meets its contract: each answer is the definition's, by the tests that led to it. Assumes nothing.
 use native.Mathlib.Omega.{arith}
 use borrow.Author.Needs.{needs}
-use Rattle.steps.specs.Record.{at-end, no-kind, cut-short, whole, kind-below, kind-above, kind-between}
+use Rattle.broker.specs.Laws.Record.{at-end, no-kind, cut-short, whole, kind-below, kind-above, kind-between}
 use Rattle.steps.proofs.decode.decode.Statement.{statement}
 use Rattle.steps.proofs.decode.decode.Tie as tie
 
