@@ -1,0 +1,5 @@
+-- Theorems of the definitions.
+pub mod Answer
+pub mod Draw
+pub mod MadeUp
+pub mod Read
