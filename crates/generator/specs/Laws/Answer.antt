@@ -32,14 +32,15 @@ at-front {page = page} {text = text} p room =
 abbrev pub written : Outcome → List ℕ
 written o = take (o .bytes) (o .buffer)
 
--- What is written, where nothing is refused, is the log from that word, and the word left is the one that it leaves.
+-- What is written, where nothing is refused, is the log from that word: so many bytes, and the word left is the one that it leaves.
 pub what-is-written : (word n : ℕ) (buffer : List ℕ) → makes word n buffer .number ≡ 0
     → (written (makes word n buffer) ≡ madeLog n word) × (makes word n buffer .word ≡ logLeaves n word)
+    × (makes word n buffer .bytes ≡ length (madeLog n word))
 what-is-written word n buffer accepted =
     by-equal word 0 (λ e. let refused : 26 ≡ 0 = rw e at accepted in absurd (omega arith))
     (λ some. by-less (length buffer) (longest * n)
     (λ h. let refused : 27 ≡ 0 = rw (too-short word n buffer some h) at accepted in absurd (omega arith))
-    (λ h. rw (is-written word n buffer some h) (take-append-seam (madeLog n word) (drop (length (madeLog n word)) buffer), refl)))
+    (λ h. rw (is-written word n buffer some h) (take-append-seam (madeLog n word) (drop (length (madeLog n word)) buffer), refl, refl)))
 
 -- Equal seeds give equal logs, whatever the two buffers held.
 pub equal-seeds : (word n : ℕ) (one other : List ℕ) → makes word n one .number ≡ 0 → makes word n other .number ≡ 0

@@ -1,0 +1,13 @@
+-- `made_up::argument::argument_at` meets its contract. Assumes nothing.
+use borrow.Author.Needs.{needs}
+use Rattle.made_up.specs.Laws.Argument.{within}
+use Rattle.made_up.proofs.argument.argument_at.Statement.{statement}
+use Rattle.made_up.proofs.argument.argument_at.Tie as tie
+
+returns-2 : tie.Need-returns-2
+returns-2 c = within (c .before .before .before .before .before .before .before .before .args .most) _ (c .number-in .ensures)
+
+pub argument-at-spec : {M : Type 1} → statement M
+argument-at-spec =
+    tie.close (tie.spec (λ c κs. search needs) (λ c. search needs) (λ c κs. search needs) (λ c κs. search needs) (λ c. search needs)
+    (λ c. search needs) (λ c. search needs) (λ c κs. search needs) returns-2)

@@ -1,0 +1,18 @@
+-- `made_up::pass::piece_from` meets its contract: each arm has its answer. Assumes nothing.
+use borrow.Author.Needs.{needs}
+use Rattle.made_up.proofs.pass.piece_from.Statement.{statement}
+use Rattle.made_up.proofs.pass.piece_from.Tie as tie
+
+returns : tie.Need-returns
+returns c = rw (c .before .before .before .number .ensures, c .before .made .given .1)
+
+returns-2 : tie.Need-returns-2
+returns-2 c = rw (c .refused-piece .ensures, c .before .before .before .number .ensures, c .before .enum-told .given .1)
+
+returns-3 : tie.Need-returns-3
+returns-3 c = rw (c .refused-piece2 .ensures, c .before .before .before .number .ensures, c .before .enum-told2 .given .1)
+
+pub piece-from-spec : {M : Type 1} → statement M
+piece-from-spec =
+    tie.close (tie.spec (λ c κs. search needs) (λ c. search needs) (λ c. search needs) (λ c κs. search needs) (λ c. search needs)
+    (λ c κs. search needs) returns returns-2 returns-3)

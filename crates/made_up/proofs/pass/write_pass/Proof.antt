@@ -1,0 +1,53 @@
+-- `made_up::pass::write_pass` is safe and ends. The loop's invariant: the program stands so in the course of the pass, whose laws say what
+-- was written, and the buffer is as long as it was. Assumes nothing.
+use mathlib.Core.List.{[], _++_}
+use mathlib.Core.Path.{_≡_, sym, _∙_}
+use native.Mathlib.Omega.{arith}
+use borrow.Author.Needs.{needs}
+use lib.ListN.{length, take}
+use lib.Seq.{length-take-le}
+use Rattle.made_up.specs.Course.Course.{begun, further}
+use Rattle.made_up.specs.Course.{Stands}
+use Rattle.made_up.specs.Laws.Piece.{piece-fits, piece-less}
+use Rattle.made_up.proofs.pass.write_pass.Statement.{statement}
+use Rattle.made_up.proofs.pass.write_pass.Tie as tie
+
+abbrev Inv-loop : tie.InvT-loop
+Inv-loop seed count buffer₀ word₀ left₀ buffer word left = Stands seed count word left × (length buffer ≡ 65536)
+
+abbrev μ-loop : tie.MeasureT-loop
+μ-loop seed count buffer₀ word₀ left₀ buffer word left = left
+
+loop-holds : tie.Need-loop-holds Inv-loop μ-loop
+loop-holds c = (record { written = []; course = begun }, sym (c .large-buffer .ensures))
+
+array-share-prefix-buffer : tie.Need-array-share-prefix-buffer Inv-loop μ-loop
+array-share-prefix-buffer c =
+    let fits = piece-fits (c .before .before .next-piece .ensures) (c .if1 .left) in
+    omega arith
+
+slice-aggregate-write-all : tie.Need-slice-aggregate-write-all Inv-loop μ-loop
+slice-aggregate-write-all c =
+    let fits = piece-fits (c .before .before .before .next-piece .ensures) (c .before .if1 .left) in
+    sym (length-take-le (c .before .before .before .next-piece .result .bytes) _ (omega arith))
+
+loop-less : tie.Need-loop-less Inv-loop μ-loop
+loop-less c = piece-less (c .before .before .before .before .before .before .next-piece .ensures) (c .if3 .left)
+
+loop-again : tie.Need-loop-again Inv-loop μ-loop
+loop-again c =
+    let made = c .before .before .before .before in
+    let next = made .before .before in
+    let stands = next .before .before .loop .inv .0 in (
+      record {
+        written = stands .written ++ take (next .next-piece .result .bytes) (next .next-piece .last .1 .1 .0);
+        course = further (next .next-piece .ensures) (made .if1 .left) (stands .course);
+      },
+      omega arith,
+    )
+
+pub write-pass-spec : {M : Type 1} → statement M
+write-pass-spec =
+    tie.close (tie.spec Inv-loop μ-loop (λ c κs. search needs) loop-holds (λ c. search needs) (λ c κs. search needs) (λ c κs. search needs)
+    (λ c. search needs) array-share-prefix-buffer slice-aggregate-write-all (λ c κs. search needs) (λ c κs. search needs)
+    (λ c. search needs) (λ c. search needs) loop-less loop-again)

@@ -1,0 +1,4 @@
+-- Theorems of the definitions.
+pub mod Argument
+pub mod Course
+pub mod Piece
