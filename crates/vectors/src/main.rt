@@ -3,16 +3,22 @@
 use generator::draw::draw;
 use libc::STDOUT_FILENO;
 
-// A seed and the words that are drawn from it, in a line.
+// The word that is drawn behind a word, behind a space.
+fn print_draw(word: u32) -> u32 {
+    let drawn = draw(word);
+    io::write_all(STDOUT_FILENO, b" ");
+    io::print_decimal(STDOUT_FILENO, drawn as u64);
+    drawn
+}
+
+// A seed and the four words that are drawn from it, in a line.
 fn print_draws(seed: u32) {
     io::print_decimal(STDOUT_FILENO, seed as u64);
     io::write_all(STDOUT_FILENO, b":");
-    let mut word = seed;
-    for _ in 0..4usize {
-        word = draw(word);
-        io::write_all(STDOUT_FILENO, b" ");
-        io::print_decimal(STDOUT_FILENO, word as u64);
-    }
+    let first = print_draw(seed);
+    let second = print_draw(first);
+    let third = print_draw(second);
+    print_draw(third);
     io::write_all(STDOUT_FILENO, b"\n");
 }
 
