@@ -46,13 +46,60 @@ impl Kind {
         Kind::ALL.get(usize::from(byte).wrapping_sub(1)).copied()
     }
 
-    /// How many bytes the body has: one for each rank and host, four for the
-    /// value.
-    pub fn body_length(self) -> usize {
+    /// The fields of the body, in order.
+    pub const fn body(self) -> &'static [Field] {
+        use Field::{Host, Rank, Value};
         match self {
-            Kind::Land | Kind::End | Kind::Look => 1,
-            Kind::Send => 6,
-            _ => 2,
+            Kind::Start | Kind::Move => &[Rank("rank"), Host],
+            Kind::Call | Kind::Route => &[Rank("calling rank"), Rank("called rank")],
+            Kind::Send => &[Rank("sender"), Rank("receiver"), Value],
+            Kind::Take => &[Rank("receiver"), Rank("sender")],
+            Kind::Heed => &[Rank("heeding rank"), Rank("moving rank")],
+            Kind::Drain => &[Rank("moving rank"), Rank("sender")],
+            Kind::Land => &[Rank("moving rank")],
+            Kind::Part => &[Rank("rank"), Rank("other rank")],
+            Kind::End | Kind::Look => &[Rank("rank")],
+        }
+    }
+
+    /// How many bytes the body has.
+    pub fn body_length(self) -> usize {
+        BODY_LENGTHS[self as usize - 1]
+    }
+}
+
+/// The length of each kind's body, in the order of `Kind::ALL`: added up once,
+/// not for every record that is read.
+const BODY_LENGTHS: [usize; Kind::ALL.len()] = {
+    let mut lengths = [0; Kind::ALL.len()];
+    let mut index = 0;
+    while index < lengths.len() {
+        let mut rest = Kind::ALL[index].body();
+        while let [field, later @ ..] = rest {
+            lengths[index] += field.length();
+            rest = later;
+        }
+        index += 1;
+    }
+    lengths
+};
+
+/// A field of a record's body; a rank with its part in the step.
+#[derive(Clone, Copy, Debug, PartialEq, Eq)]
+#[allow(missing_docs)]
+pub enum Field {
+    Rank(&'static str),
+    Host,
+    Value,
+}
+
+impl Field {
+    /// "Ranks and hosts are one byte each; the value is four bytes, least
+    /// significant first."
+    pub const fn length(self) -> usize {
+        match self {
+            Field::Rank(_) | Field::Host => 1,
+            Field::Value => 4,
         }
     }
 }

@@ -4,7 +4,7 @@
 //! refused records can be written too. A line `bytes 4 0 1 ff` gives bytes as
 //! they are, in hexadecimal, so that every log has a text.
 
-use crate::record::{Kind, Step};
+use crate::record::{Field, Kind, Step};
 use std::fmt::{self, Write};
 
 /// The word of a line that gives bytes as they are.
@@ -41,30 +41,6 @@ impl Kind {
     }
 }
 
-/// A field of a record; a rank with its part in the step.
-#[derive(Clone, Copy)]
-enum Field {
-    Rank(&'static str),
-    Host,
-    Value,
-}
-
-/// The fields of a kind's body, in order.
-fn fields_of(kind: Kind) -> &'static [Field] {
-    use Field::{Host, Rank, Value};
-    match kind {
-        Kind::Start | Kind::Move => &[Rank("rank"), Host],
-        Kind::Call | Kind::Route => &[Rank("calling rank"), Rank("called rank")],
-        Kind::Send => &[Rank("sender"), Rank("receiver"), Value],
-        Kind::Take => &[Rank("receiver"), Rank("sender")],
-        Kind::Heed => &[Rank("heeding rank"), Rank("moving rank")],
-        Kind::Drain => &[Rank("moving rank"), Rank("sender")],
-        Kind::Land => &[Rank("moving rank")],
-        Kind::Part => &[Rank("rank"), Rank("other rank")],
-        Kind::End | Kind::Look => &[Rank("rank")],
-    }
-}
-
 impl Field {
     /// What the field is in its step.
     fn part(self) -> &'static str {
@@ -83,23 +59,20 @@ impl Field {
         }
     }
 
-    /// How many bytes it has, and the highest number that they hold.
-    fn extent(self) -> (usize, u32) {
-        match self {
-            Field::Rank(_) | Field::Host => (1, u32::from(u8::MAX)),
-            Field::Value => (4, u32::MAX),
-        }
+    /// The highest number that its bytes hold.
+    fn highest(self) -> u32 {
+        u32::MAX >> (u32::BITS - 8 * self.length() as u32)
     }
 
     /// Appends the number that a word gives for this field.
     fn append(self, word: &str, log: &mut Vec<u8>) -> Result<(), String> {
-        let (length, highest) = self.extent();
+        let highest = self.highest();
         let number = read_number(word).filter(|&number| number <= highest);
         let number = number.ok_or_else(|| {
             let (sort, word) = (self.sort(), shown(word));
             format!("{sort} '{word}' is not a number from 0 to {highest}")
         })?;
-        log.extend_from_slice(&number.to_le_bytes()[..length]);
+        log.extend_from_slice(&number.to_le_bytes()[..self.length()]);
         Ok(())
     }
 }
@@ -176,7 +149,7 @@ fn append_line(line: &str, log: &mut Vec<u8>) -> Result<(), String> {
 }
 
 fn append_record(kind: Kind, words: &[&str], log: &mut Vec<u8>) -> Result<(), String> {
-    let fields = fields_of(kind);
+    let fields = kind.body();
     if words.len() < fields.len() {
         return Err(needs(kind));
     }
@@ -212,7 +185,7 @@ fn unknown_word(word: &str) -> String {
 
 /// "send needs sender, receiver and value".
 fn needs(kind: Kind) -> String {
-    let parts: Vec<&str> = fields_of(kind).iter().map(|field| field.part()).collect();
+    let parts: Vec<&str> = kind.body().iter().map(|field| field.part()).collect();
     let list = match parts.split_last() {
         Some((last, rest)) if !rest.is_empty() => format!("{} and {last}", rest.join(", ")),
         _ => parts.concat(),
@@ -254,7 +227,7 @@ impl fmt::Display for Step {
         let (kind, first, second, value) = self.fields();
         formatter.write_str(kind.word())?;
         let numbers = [u32::from(first), u32::from(second), value];
-        let mut given = numbers[..fields_of(kind).len()].iter();
+        let mut given = numbers[..kind.body().len()].iter();
         given.try_for_each(|number| write!(formatter, " {number}"))
     }
 }
