@@ -1,4 +1,5 @@
-//! Pseudo-random numbers for made-up logs; a seed always gives the same ones.
+//! Pseudo-random numbers for tests and measuring; a seed always gives the same
+//! ones.
 
 /// A source of pseudo-random numbers: xorshift on 64 bits.
 #[derive(Clone, Debug)]

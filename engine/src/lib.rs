@@ -1,6 +1,7 @@
-//! The panel message desk of paper 01: a second engine, written from the
-//! paper's text alone, whose printed runs other implementations are compared
-//! with. `Snapshot` is the plain state, `Desk` the same state kept for speed.
+//! The panel message desk of paper 01, with what paper 02 adds: a second engine,
+//! written from the papers' text alone, whose printed runs other implementations
+//! are compared with. `Snapshot` is the plain state, `Desk` the same state kept
+//! for speed.
 
 #![forbid(unsafe_code)]
 #![warn(missing_docs)]
@@ -10,6 +11,7 @@ pub mod checks;
 pub mod desk;
 pub mod generate;
 mod lines;
+pub mod made_up;
 pub mod mail;
 pub mod names;
 pub mod rank_set;
@@ -25,6 +27,7 @@ pub mod text;
 mod transitions;
 
 pub use desk::Desk;
+pub use made_up::{made_up, MadeUp, NotMade};
 pub use mail::{Mail, Place};
 pub use names::{Host, Rank, Vmid};
 pub use record::{Kind, Step};

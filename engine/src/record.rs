@@ -63,7 +63,7 @@ impl Kind {
     }
 
     /// How many bytes the body has.
-    pub fn body_length(self) -> usize {
+    pub const fn body_length(self) -> usize {
         BODY_LENGTHS[self as usize - 1]
     }
 }

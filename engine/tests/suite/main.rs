@@ -1,11 +1,14 @@
 //! The tests of the second engine, one module for each idea: paper 01's
 //! listing and edges, every refusal, soundness, order within pairs, and logs
-//! of any bytes and any length.
+//! of any bytes and any length; paper 02's made-up passes.
 
 mod edges;
 mod listing;
 mod logs;
 mod long_input;
+mod made_up;
+#[path = "../shared/made_up_log.rs"]
+mod made_up_log;
 mod plain_reading;
 mod plain_table;
 #[path = "../shared/printed_run.rs"]
