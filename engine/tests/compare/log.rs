@@ -3,7 +3,7 @@
 
 use engine::generate::{Generator, Mix};
 use engine::text::encode;
-use engine::Desk;
+use engine::{Desk, Step};
 
 /// How a log comes to the program's standard input.
 #[derive(Clone, Copy, Debug)]
@@ -53,6 +53,17 @@ impl Log {
 /// The log of steps written as the paper writes them, "start 0 0, call 0 1".
 pub fn log_of(steps: &str) -> Vec<u8> {
     encode(&steps.replace(", ", "\n")).unwrap_or_else(|errors| panic!("{errors:?} of '{steps}'"))
+}
+
+/// Where the whole records of a log start, up to one that is none.
+pub fn record_starts(log: &[u8]) -> Vec<usize> {
+    let mut starts = Vec::new();
+    let mut position = 0;
+    while let Ok((_, length)) = Step::read(&log[position..]) {
+        starts.push(position);
+        position += length;
+    }
+    starts
 }
 
 /// The desk that a log of whole records leaves.

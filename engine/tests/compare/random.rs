@@ -2,10 +2,9 @@
 //! lengths; and each of them spoiled: cut at every byte of its last record,
 //! and with single bytes changed.
 
-use crate::log::{Feed, Log};
+use crate::log::{record_starts, Feed, Log};
 use engine::bits::Bits;
 use engine::generate::{random_log, Mix};
-use engine::Step;
 
 const COUNT: usize = 2_520;
 
@@ -85,21 +84,10 @@ fn every_byte_changed() -> Vec<Log> {
         .collect()
 }
 
-/// Where the last record of a log of whole records starts.
-fn last_start(log: &[u8]) -> usize {
-    let mut start = 0;
-    while let Ok((_, length)) = Step::read(&log[start..]) {
-        if start + length == log.len() {
-            break;
-        }
-        start += length;
-    }
-    start
-}
-
 /// The log cut before and within its last record.
 fn cut(log: &Log) -> impl Iterator<Item = Log> + '_ {
-    (last_start(&log.bytes)..log.bytes.len()).map(|length| Log {
+    let last_start = record_starts(&log.bytes).pop().unwrap();
+    (last_start..log.bytes.len()).map(|length| Log {
         name: format!("{}-cut-{length}", log.name),
         bytes: log.bytes[..length].to_vec(),
         feed: log.feed,

@@ -68,19 +68,8 @@ pub fn logs() -> Vec<Log> {
 
 mod tests {
     use super::{across_the_edges, offset_at, EDGE, EDGES, SEND};
-    use engine::{Kind, Step};
-    use std::collections::BTreeSet;
-
-    /// Where the records of a log start.
-    fn starts(log: &[u8]) -> BTreeSet<usize> {
-        let mut starts = BTreeSet::new();
-        let mut position = 0;
-        while let Ok((_, length)) = Step::read(&log[position..]) {
-            starts.insert(position);
-            position += length;
-        }
-        starts
-    }
+    use crate::log::record_starts;
+    use engine::Kind;
 
     #[test]
     fn a_send_is_cut_at_every_offset_at_every_edge() {
@@ -88,11 +77,11 @@ mod tests {
         for first in 0..SEND {
             let log = across_the_edges(first);
             assert!(log.len() > 250_000, "{} bytes", log.len());
-            let starts = starts(&log);
+            let starts = record_starts(&log);
             for edge in 1..=EDGES {
                 let offset = offset_at(edge, first);
                 let start = edge * EDGE - offset;
-                assert!(starts.contains(&start));
+                assert!(starts.binary_search(&start).is_ok());
                 assert_eq!(log[start], Kind::Send as u8);
                 met[edge - 1][offset] = true;
             }
