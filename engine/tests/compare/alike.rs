@@ -6,7 +6,7 @@ use crate::expected::Expected;
 use crate::log::Log;
 use crate::program::{Input, Program};
 use crate::tally::Tally;
-use crate::{garbage, limits, paper, probes, random, short_records, window};
+use crate::{garbage, limits, made_up, paper, probes, random, short_records, window};
 use engine::text::decode;
 use std::fs::{self, File};
 use std::path::{Path, PathBuf};
@@ -28,6 +28,7 @@ static LOGS: LazyLock<Vec<Log>> = LazyLock::new(|| {
         short_records::logs(),
         limits::logs(),
         window::logs(),
+        made_up::logs(),
         probes::logs(),
         paper::logs(),
         random::logs(),
@@ -117,7 +118,12 @@ fn program_prints_every_log_alike() {
     let found = compare_all(&program);
     assert!(found.is_empty(), "differences:\n{}", found.join("\n"));
     let tally = Tally::of(&LOGS);
-    let report = format!("program: {}\n{}", program.path.display(), tally.report());
+    let report = format!(
+        "program: {}\n{}\nof these, made-up passes:\n{}",
+        program.path.display(),
+        tally.report(),
+        Tally::of(&made_up::logs()).answers_report()
+    );
     print!("{report}");
     fs::write(report_place(), report).unwrap();
     tally.check();

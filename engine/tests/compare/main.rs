@@ -9,6 +9,9 @@ mod expected;
 mod garbage;
 mod limits;
 mod log;
+mod made_up;
+#[path = "../shared/made_up_log.rs"]
+mod made_up_log;
 mod paper;
 #[path = "../shared/printed_run.rs"]
 mod printed_run;

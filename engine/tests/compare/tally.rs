@@ -4,9 +4,13 @@
 use crate::log::Log;
 use crate::situations::Situations;
 use engine::{Desk, Kind, Refusal, Step};
+use std::ops::RangeInclusive;
 
 /// The highest number of the table of checks.
 const HIGHEST: usize = Refusal::NumbersExhausted as usize;
+
+/// The numbers that can be given from a fresh desk, where 1 cannot.
+pub const NUMBERS: RangeInclusive<usize> = 2..=HIGHEST;
 
 /// Bytes that are no kind are counted together, before the kinds.
 const SORTS: usize = Kind::ALL.len() + 1;
@@ -88,28 +92,36 @@ impl Tally {
         }
     }
 
-    /// All counts, one a line. 1 cannot be given from a fresh desk.
-    pub fn report(&self) -> String {
+    pub fn accepted(&self, kind: Kind) -> u64 {
+        self.answers[0][kind as usize]
+    }
+
+    /// How many steps, of whatever kinds, get a number.
+    pub fn refused(&self, number: usize) -> u64 {
+        self.answers[number].iter().sum()
+    }
+
+    /// The counts of logs, steps and answers, one a line.
+    pub fn answers_report(&self) -> String {
         let mut lines = vec![
             format!("logs: {}", self.logs),
             format!("steps: {}", self.steps),
         ];
         for kind in Kind::ALL {
-            let count = self.answers[0][kind as usize];
-            lines.push(format!(
-                "accepted {:02X} {}: {count}",
-                kind as u8,
-                kind.word()
-            ));
+            let (byte, word, count) = (kind as u8, kind.word(), self.accepted(kind));
+            lines.push(format!("accepted {byte:02X} {word}: {count}"));
         }
-        for number in 2..=HIGHEST {
-            let count: u64 = self.answers[number].iter().sum();
-            lines.push(format!("refused with {number}: {count}"));
-        }
-        for (situation, count) in self.situations.rows() {
-            lines.push(format!("{situation}: {count}"));
+        for number in NUMBERS {
+            lines.push(format!("refused with {number}: {}", self.refused(number)));
         }
         lines.join("\n") + "\n"
+    }
+
+    /// All counts, one a line.
+    pub fn report(&self) -> String {
+        let rows = self.situations.rows();
+        let lines = rows.map(|(situation, count)| format!("{situation}: {count}\n"));
+        self.answers_report() + &lines.concat()
     }
 
     /// Every kind is accepted, every number from 2 on is given, from 3 on in
@@ -117,7 +129,7 @@ impl Tally {
     pub fn check(&self) {
         for kind in Kind::ALL {
             let word = kind.word();
-            assert!(self.answers[0][kind as usize] > 0, "no {word} is accepted");
+            assert!(self.accepted(kind) > 0, "no {word} is accepted");
             assert!(self.answers[3][kind as usize] > 0, "no {word} is cut short");
         }
         assert!(self.answers[2][0] > 0, "no unknown kind");
