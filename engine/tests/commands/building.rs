@@ -2,7 +2,7 @@
 //! each call, says what the kit says, and puts a program where it is looked
 //! for.
 
-use crate::feigned_program::put_program;
+use crate::feigned_program::{put_program, root_with};
 use crate::script::{end_of, End};
 use std::fs;
 use std::path::{Path, PathBuf};
@@ -32,8 +32,7 @@ chmod +x target/bin/replay
 
 impl Repository {
     fn new(name: &str) -> Repository {
-        let folder = PathBuf::from(env!("CARGO_TARGET_TMPDIR")).join(name);
-        let _ = fs::remove_dir_all(&folder);
+        let folder = root_with(name, &[]);
         for part in ["kit", "crates/base/specs", "crates/replay/src"] {
             fs::create_dir_all(folder.join(part)).unwrap();
         }

@@ -2,10 +2,8 @@
 //! A script feigns such a program.
 
 use crate::drawing::{end_of, file_with, End};
-use crate::feigned_program::put_program;
+use crate::feigned_program::root_with;
 use engine::text::encode;
-use std::fs::{self, File};
-use std::path::PathBuf;
 use std::process::Command;
 
 const TEXT: &str = "start 0 0\nstart 1 1\nstart 2 0\ncall 0 1\nroute 0 1\nsend 0 1 5\nlook 1\n";
@@ -25,14 +23,8 @@ end
 /// How it ended with a program that prints this of any log, in a repository of
 /// this name.
 fn drawn_as(repository: &str, printed: &str) -> End {
-    let root = PathBuf::from(env!("CARGO_TARGET_TMPDIR")).join(repository);
-    for folder in ["target/bin", "crates/replay"] {
-        fs::create_dir_all(root.join(folder)).unwrap();
-    }
-    fs::write(root.join("crates.txt"), "replay:\n").unwrap();
-    let script = format!("#!/bin/sh\ncat >/dev/null\ncat <<'END'\n{printed}END\n");
-    put_program(&root.join("target/bin/replay"), &script);
-    File::create(root.join("target/built")).unwrap();
+    let program = format!("cat >/dev/null\ncat <<'END'\n{printed}END");
+    let root = root_with(repository, &[("replay", &program)]);
     let log = file_with(&format!("{repository}.log"), &encode(TEXT).unwrap());
     let mut command = Command::new(env!("CARGO_BIN_EXE_command-line"));
     end_of(command.arg(root).args(["--picture", &log]))

@@ -1,22 +1,9 @@
 //! A program in the proved one's place that does not print the whole run: what
 //! it printed is told, there is no summary, and the status is 1.
 
-use crate::feigned_program::put_program;
+use crate::feigned_program::root_with;
 use crate::program::{file_with, log_of};
-use std::fs;
-use std::path::PathBuf;
 use std::process::Command;
-
-/// A repository's root in which the program is this line of shell.
-fn root_with(name: &str, program: &str) -> PathBuf {
-    let root = PathBuf::from(env!("CARGO_TARGET_TMPDIR")).join(format!("words-{name}"));
-    fs::create_dir_all(root.join("target/bin")).unwrap();
-    fs::write(root.join("crates.txt"), "replay:\n").unwrap();
-    let script = format!("#!/bin/sh\n{program}\n");
-    put_program(&root.join("target/bin/replay"), &script);
-    fs::write(root.join("target/built"), "").unwrap();
-    root
-}
 
 const TOLD: &str = "\
 0 01 0 0 1 0
@@ -42,7 +29,8 @@ fn a_run_that_is_not_whole_ends_with_1() {
     .enumerate()
     {
         let mut command = Command::new(env!("CARGO_BIN_EXE_command-line"));
-        command.arg(root_with(&format!("broken-{index}"), program));
+        let root = root_with(&format!("words-broken-{index}"), &[("replay", program)]);
+        command.arg(root);
         let output = command.arg("--words").arg(&log).output().unwrap();
         assert_eq!(output.status.code(), Some(1), "{program}");
         assert_eq!(String::from_utf8_lossy(&output.stdout), printed);

@@ -17,7 +17,7 @@ mod words;
 use failure::Failure;
 use input::Input;
 use options::{Request, USAGE};
-use proved::proved_program;
+use proved::{proved_program, REPLAY};
 use std::env;
 use std::ffi::OsString;
 use std::io::{self, Write};
@@ -50,19 +50,19 @@ fn serve(root: &Path, asked: &[OsString]) -> Result<(), Failure> {
                 // The run says the rest: its first line has refusal 2.
                 let _ = writeln!(io::stderr(), "{hint}");
             }
-            replay::replay(&proved_program(root)?, input.into_log())
+            replay::replay(&proved_program(root, REPLAY)?, input.into_log())
         }
         Request::Text(source) => {
             let log = Input::open(&source, root)?.into_log_of_text()?;
-            replay::replay(&proved_program(root)?, log)
+            replay::replay(&proved_program(root, REPLAY)?, log)
         }
         Request::Words(source) => {
             let log = Input::open(&source, root)?.into_log_of_either()?;
-            words::tell(running::start(&proved_program(root)?, log)?)
+            words::tell(running::start(&proved_program(root, REPLAY)?, log)?)
         }
         Request::Picture(source, range) => {
             let log = Input::open(&source, root)?.into_log_of_either()?;
-            picture::draw(running::start(&proved_program(root)?, log)?, range)
+            picture::draw(running::start(&proved_program(root, REPLAY)?, log)?, range)
         }
     }
 }

@@ -1,5 +1,5 @@
-//! The proved program, built before it is used where it is missing or its
-//! sources have changed since.
+//! The proved programs, each built before it is used where it is missing or
+//! its sources have changed since.
 
 use crate::failure::Failure;
 use std::collections::{BTreeSet, HashMap};
@@ -9,46 +9,55 @@ use std::path::{Path, PathBuf};
 use std::process::{Command, Stdio};
 use std::time::SystemTime;
 
-/// The crate of the program.
-const PROGRAM: &str = "replay";
+/// The crate of the program that prints a run.
+pub const REPLAY: &str = "replay";
 
 /// At most this many lines are shown of what went wrong.
 const SHOWN_OF_A_FAILURE: usize = 40;
 
-/// Where the program is, after it was built if need be. Two that want to
-/// build it do so one after the other.
-pub fn proved_program(root: &Path) -> Result<PathBuf, Failure> {
-    let target = root.join("target");
-    let program = target.join("bin").join(PROGRAM);
-    let built = target.join("built");
-    if is_fresh(root, &program, &built) {
+/// Where the program of a crate is, after it was built if need be. Two that
+/// want to build do so one after the other.
+pub fn proved_program(root: &Path, name: &str) -> Result<PathBuf, Failure> {
+    let program = program_of(root, name);
+    if is_fresh(root, name) {
         return Ok(program);
     }
+    let target = root.join("target");
     let unwritable =
         |error| Failure::Told(format!("{} cannot be written: {error}", target.display()));
     let lock = fs::create_dir_all(&target)
         .and_then(|()| File::create(target.join("lock")))
         .and_then(|lock| lock.lock().map(|()| lock))
         .map_err(unwritable)?;
-    if !is_fresh(root, &program, &built) {
+    if !is_fresh(root, name) {
         // The time of this file is that of the build's begin.
         let begun = target.join("begun");
-        fs::write(&begun, PROGRAM).map_err(unwritable)?;
-        build(root)?;
-        fs::rename(&begun, &built).map_err(unwritable)?;
+        fs::write(&begun, name).map_err(unwritable)?;
+        build(root, name)?;
+        fs::rename(&begun, stamp_of(root, name)).map_err(unwritable)?;
     }
     drop(lock);
     Ok(program)
 }
 
-/// Whether the program is there and was built after the last change of what
-/// it is made of.
-fn is_fresh(root: &Path, program: &Path, built: &Path) -> bool {
-    let Ok(since) = modified(built) else {
+/// Where the kit puts the program of a crate.
+fn program_of(root: &Path, name: &str) -> PathBuf {
+    root.join("target/bin").join(name)
+}
+
+/// The file whose time is that of a program's last build.
+fn stamp_of(root: &Path, name: &str) -> PathBuf {
+    root.join("target").join(format!("built-{name}"))
+}
+
+/// Whether a program is there and was built after the last change of what it
+/// is made of.
+fn is_fresh(root: &Path, name: &str) -> bool {
+    let Ok(since) = modified(&stamp_of(root, name)) else {
         return false;
     };
-    program.is_file()
-        && crates_of(root, PROGRAM).is_some_and(|crates| {
+    program_of(root, name).is_file()
+        && crates_of(root, name).is_some_and(|crates| {
             let mut sources = crates.iter().map(|name| root.join("crates").join(name));
             !is_newer(&root.join("crates.txt"), since)
                 && !sources.any(|source| is_newer(&source, since))
@@ -88,10 +97,10 @@ fn modified(path: &Path) -> io::Result<SystemTime> {
     fs::metadata(path)?.modified()
 }
 
-/// Builds the program. Its progress is a line of the crates that are proved.
-fn build(root: &Path) -> Result<(), Failure> {
+/// Builds a program. Its progress is a line of the crates that are proved.
+fn build(root: &Path, name: &str) -> Result<(), Failure> {
     let mut rt = Command::new("rt")
-        .args(["check", PROGRAM])
+        .args(["check", name])
         .current_dir(root)
         .stdin(Stdio::null())
         .stdout(Stdio::piped())
