@@ -1,6 +1,6 @@
 //! What is built before a run, with a kit that only feigns proofs: it notes
 //! each call, says what the kit says, and puts a program where it is looked
-//! for.
+//! for. What it puts for `replay` says that it ran, and any other is silent.
 
 use crate::feigned_program::{put_program, root_with};
 use crate::script::{end_of, End};
@@ -8,10 +8,19 @@ use std::fs;
 use std::path::{Path, PathBuf};
 use std::process::Command;
 
-/// The crate `base` is below the program's by way of another.
-const CRATES: &str = "# The crates.\nbase:\nlines: base\nreplay: lines io\nother: base\n";
+/// The crate `base` is below that of `replay` by way of another, and not below
+/// that of `made_up`.
+const CRATES: &str = "\
+# The crates.
+base:
+lines: base
+replay: lines io
+generator:
+made_up: generator io
+other: base
+";
 
-/// A repository of some crates below the program's, and the feigned kit.
+/// A repository of some crates below the programs', and the feigned kit.
 struct Repository {
     folder: PathBuf,
 }
@@ -24,16 +33,22 @@ if [ -e broken ]; then
 fi
 echo "rt: base proved (1 s)"
 for line in 1 2 3 4 5 6 7 8 9; do echo "fn base::f$line: proved"; done
-echo "rt: replay proved (2 s)"
+echo "rt: $2 proved (2 s)"
 mkdir -p target/bin
-printf '#!/bin/sh\necho ran\n' >target/bin/replay
-chmod +x target/bin/replay
+echo '#!/bin/sh' >"target/bin/$2"
+if [ "$2" = replay ]; then echo 'echo ran' >>"target/bin/$2"; fi
+chmod +x "target/bin/$2"
 "#;
 
 impl Repository {
     fn new(name: &str) -> Repository {
         let folder = root_with(name, &[]);
-        for part in ["kit", "crates/base/specs", "crates/replay/src"] {
+        for part in [
+            "kit",
+            "crates/base/specs",
+            "crates/replay/src",
+            "crates/generator/src",
+        ] {
             fs::create_dir_all(folder.join(part)).unwrap();
         }
         let repository = Repository { folder };
@@ -49,20 +64,29 @@ impl Repository {
         fs::write(self.folder.join(file), text).unwrap();
     }
 
-    fn run(&self, path: &Path) -> End {
+    fn run(&self, path: &Path, arguments: &[&str]) -> End {
         let mut command = Command::new(env!("CARGO_BIN_EXE_command-line"));
         let others = "/usr/bin:/bin";
         command.env("PATH", format!("{}:{others}", path.display()));
-        end_of(command.arg(&self.folder))
+        end_of(command.arg(&self.folder).args(arguments))
     }
 
     fn with_kit(&self) -> End {
-        self.run(&self.folder.join("kit"))
+        self.asked(&[])
+    }
+
+    fn asked(&self, arguments: &[&str]) -> End {
+        self.run(&self.folder.join("kit"), arguments)
+    }
+
+    /// What the kit was called with, a line for each call.
+    fn called(&self) -> String {
+        fs::read_to_string(self.folder.join("calls")).unwrap_or_default()
     }
 
     /// How often the kit was called.
     fn calls(&self) -> usize {
-        fs::read_to_string(self.folder.join("calls")).map_or(0, |calls| calls.lines().count())
+        self.called().lines().count()
     }
 }
 
@@ -83,9 +107,30 @@ fn the_program_is_built_once() {
     for _ in 0..3 {
         assert_eq!(repository.with_kit(), ran(""));
     }
-    assert_eq!(repository.calls(), 1);
-    let calls = fs::read_to_string(repository.folder.join("calls")).unwrap();
-    assert_eq!(calls, "check replay\n");
+    assert_eq!(repository.called(), "check replay\n");
+}
+
+/// A text of a made-up pass needs the generator alone, and its replay both.
+#[test]
+fn only_what_a_request_needs_is_built() {
+    let repository = Repository::new("needed");
+    let (replayed, text) = (["--made", "1", "2"], ["--made", "1", "2", "--text"]);
+    let built = BUILT.replace("replay", "made_up");
+    let nothing = |said: &str| End {
+        printed: String::new(),
+        ..ran(said)
+    };
+    assert_eq!(repository.asked(&text), nothing(&built));
+    assert_eq!(repository.called(), "check made_up\n");
+    assert_eq!(repository.asked(&replayed), ran(BUILT));
+    assert_eq!(repository.called(), "check made_up\ncheck replay\n");
+    repository.write("crates/generator/src/lib.rt", "");
+    assert_eq!(repository.with_kit(), ran(""));
+    assert_eq!(repository.asked(&replayed), ran(&built));
+    repository.write("crates/base/specs/Lib.antt", "");
+    assert_eq!(repository.asked(&text), nothing(""));
+    assert_eq!(repository.asked(&replayed), ran(BUILT));
+    assert_eq!(repository.calls(), 4);
 }
 
 #[test]
@@ -172,7 +217,7 @@ fn a_long_failure_is_cut() {
 #[test]
 fn a_missing_kit_is_named() {
     let repository = Repository::new("no-kit");
-    let end = repository.run(Path::new("/nowhere"));
+    let end = repository.run(Path::new("/nowhere"), &[]);
     assert_eq!((end.status, &end.printed[..]), (Some(1), ""));
     assert!(
         end.said.starts_with("rt is not installed: "),

@@ -1,5 +1,6 @@
 //! The script, called with some arguments and an input.
 
+use crate::made_up_program::MADE_UP;
 use crate::proved_program::{program_at, USUAL_PLACE};
 use crate::release_programs::build_release;
 use std::fs;
@@ -31,9 +32,21 @@ pub fn end_of(command: &mut Command) -> End {
 /// proved program to run.
 pub fn shell(line: &str) -> Option<End> {
     program_at(USUAL_PLACE)?;
-    build_release();
+    build_release(&[]);
+    Some(end_of_line(line))
+}
+
+/// The same for a line that needs the generator too.
+pub fn shell_making_passes(line: &str) -> Option<End> {
+    program_at(USUAL_PLACE)?;
+    program_at(MADE_UP)?;
+    build_release(&["--made", "1", "0"]);
+    Some(end_of_line(line))
+}
+
+fn end_of_line(line: &str) -> End {
     let mut command = Command::new("bash");
-    Some(end_of(command.args(["-c", line]).current_dir(ROOT)))
+    end_of(command.args(["-c", line]).current_dir(ROOT))
 }
 
 /// A file of these bytes, for a test alone.

@@ -16,7 +16,15 @@ fn usage() -> Option<String> {
 fn help_has_a_line_for_each_way() {
     let Some(usage) = usage() else { return };
     assert_eq!(shell("./run -h").unwrap().printed, usage);
-    for way in ["FILE", "--text FILE", "--words FILE", "--version", "--help"] {
+    for way in [
+        "FILE",
+        "--text FILE",
+        "--words FILE",
+        "--made SEED COUNT",
+        "--made SEED COUNT --text",
+        "--version",
+        "--help",
+    ] {
         assert!(usage.contains(&format!("\n./run {way}")), "{way}");
     }
     assert!(usage.lines().all(|line| line.len() <= 100));
@@ -39,6 +47,11 @@ fn wrong_command_lines_get_the_usage() {
         ("--version 1", "'1' is too much after '--version'"),
         ("''", "a file's name is empty"),
         ("--words ''", "a file's name is empty"),
+        ("--made", "--made needs a seed and a count"),
+        ("--made 7", "'7' needs a count"),
+        ("--made 7 12 x", "'x' is too much after '12'"),
+        ("--made 7 12 --words", "'--words' is too much after '12'"),
+        ("--made 7 12 --text x", "'x' is too much after '--text'"),
     ] {
         let end = shell(&format!("./run {arguments}")).unwrap();
         assert_eq!((end.status, &end.printed[..]), (Some(2), ""), "{arguments}");

@@ -2,6 +2,7 @@
 
 use crate::console::{self, Shown};
 use crate::document::{names, Document};
+use crate::made_up_program::MADE_UP;
 use crate::proved_program::{program_at, USUAL_PLACE};
 use crate::release_programs::build_release;
 use crate::{quotes, running_text};
@@ -27,10 +28,10 @@ fn commands(document: &Document) -> Vec<Shown> {
 
 #[test]
 fn every_command_prints_what_is_shown() {
-    if program_at(USUAL_PLACE).is_none() {
+    if program_at(USUAL_PLACE).is_none() || program_at(MADE_UP).is_none() {
         return;
     }
-    build_release();
+    build_release(&["--made", "1", "0"]);
     for document in documents() {
         for shown in commands(&document) {
             if let Err(problem) = console::check(&shown) {

@@ -13,6 +13,8 @@
 mod console;
 mod document;
 mod held;
+#[path = "../shared/made_up_program.rs"]
+mod made_up_program;
 mod performance;
 #[path = "../shared/proved_program.rs"]
 mod proved_program;

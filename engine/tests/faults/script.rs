@@ -17,7 +17,7 @@ const ROOT: &str = concat!(env!("CARGO_MANIFEST_DIR"), "/..");
 /// script would build, in its own time, is there before.
 fn shell(line: &str) -> Option<Command> {
     program_at(USUAL_PLACE)?;
-    build_release();
+    build_release(&[]);
     let mut command = Command::new("bash");
     command.args(["-c", line]).current_dir(ROOT);
     command.env("LC_ALL", "C").stdin(Stdio::null());

@@ -47,7 +47,7 @@ fn a_wrong_range_gets_the_usage() {
         let (first, usage) = end.said.split_once('\n').unwrap();
         assert!(first.starts_with(problem), "{first}");
         assert!(
-            usage.contains("\n./run --picture FILE FROM TO   draws"),
+            usage.contains("\n./run --picture FILE FROM TO     draws"),
             "{usage}"
         );
     }

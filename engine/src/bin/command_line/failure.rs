@@ -9,7 +9,7 @@ use std::process::ExitCode;
 pub enum Failure {
     /// The arguments are none that the usage has: status 2.
     Usage(String),
-    /// What can't be read, written, built or drawn: status 1.
+    /// What can't be read, written, built, drawn or made up: status 1.
     Told(String),
     /// The same, where the proved program has said it already.
     SaidAlready,

@@ -1,10 +1,11 @@
 //! The command line of `./run`, which passes on the repository's root and its
-//! own arguments. The proved program makes every run; here it is built where
-//! it is missing or old, given its input, and its lines are passed on, told in
-//! words or drawn.
+//! own arguments. The proved programs make every run and every made-up pass;
+//! here they are built where they are missing or old and given their input,
+//! and what they print is passed on, told in words or drawn.
 
 mod failure;
 mod input;
+mod made;
 mod options;
 mod picture;
 mod proved;
@@ -17,7 +18,7 @@ mod words;
 use failure::Failure;
 use input::Input;
 use options::{Request, USAGE};
-use proved::{proved_program, REPLAY};
+use proved::{proved_program, MADE_UP, REPLAY};
 use std::env;
 use std::ffi::OsString;
 use std::io::{self, Write};
@@ -64,6 +65,11 @@ fn serve(root: &Path, asked: &[OsString]) -> Result<(), Failure> {
             let log = Input::open(&source, root)?.into_log_of_either()?;
             picture::draw(running::start(&proved_program(root, REPLAY)?, log)?, range)
         }
+        Request::Made(pass) => {
+            let replay = proved_program(root, REPLAY)?;
+            made::replay(&replay, &proved_program(root, MADE_UP)?, pass)
+        }
+        Request::MadeText(pass) => made::print_text(&proved_program(root, MADE_UP)?, pass),
     }
 }
 

@@ -3,17 +3,20 @@
 use crate::failure::Failure;
 use std::ffi::{OsStr, OsString};
 use std::path::PathBuf;
+use std::str::FromStr;
 
 /// The whole usage, for `--help` and for wrong arguments.
 pub const USAGE: &str = "\
-./run                          replays the listing of paper 01
-./run FILE                     replays a log
-./run --text FILE              replays a text log, one record a line
-./run --words FILE             tells in words what each step of a log or a text log did
-./run --picture FILE           draws a log or a text log: an SVG on standard output
-./run --picture FILE FROM TO   draws its steps FROM to TO, counted from 1
-./run --version                tells the commit and the kit
-./run --help, ./run -h         prints these lines
+./run                            replays the listing of paper 01
+./run FILE                       replays a log
+./run --text FILE                replays a text log, one record a line
+./run --words FILE               tells in words what each step of a log or a text log did
+./run --picture FILE             draws a log or a text log: an SVG on standard output
+./run --picture FILE FROM TO     draws its steps FROM to TO, counted from 1
+./run --made SEED COUNT          replays a made-up pass: COUNT records drawn from the number SEED
+./run --made SEED COUNT --text   prints that pass as a text log
+./run --version                  tells the commit and the kit
+./run --help, ./run -h           prints these lines
 FILE may be -, which is standard input; a file whose name begins with - is given as ./-NAME
 ";
 
@@ -28,6 +31,14 @@ pub enum Source {
     File(PathBuf),
 }
 
+/// A made-up pass: the number that it is drawn from, and how many records it
+/// has. Which seeds there is no pass of is the generator's to say.
+#[derive(Clone, Copy, Debug, PartialEq)]
+pub struct Pass {
+    pub seed: u32,
+    pub count: u64,
+}
+
 /// What is asked for.
 #[derive(Debug, PartialEq)]
 pub enum Request {
@@ -38,6 +49,10 @@ pub enum Request {
     Words(Source),
     /// With the first and the last step to be drawn, counted from 1.
     Picture(Source, Option<(u64, u64)>),
+    /// A made-up pass, replayed.
+    Made(Pass),
+    /// A made-up pass as a text log.
+    MadeText(Pass),
 }
 
 /// What the arguments ask for.
@@ -51,6 +66,7 @@ pub fn parse(arguments: &[OsString]) -> Result<Request, Failure> {
         Some("--text") => one_file(first, rest).map(Request::Text),
         Some("--words") => one_file(first, rest).map(Request::Words),
         Some("--picture") => picture(first, rest),
+        Some("--made") => made(first, rest),
         _ => alone(first, rest, Request::Replay(source(first)?)),
     }
 }
@@ -90,16 +106,46 @@ fn picture(option: &OsStr, rest: &[OsString]) -> Result<Request, Failure> {
 
 /// The number of a step, counted from 1.
 fn step_number(word: &OsStr) -> Result<u64, Failure> {
-    let digits = word
-        .to_str()
-        .filter(|word| word.bytes().all(|byte| byte.is_ascii_digit()));
-    let number = digits.and_then(|digits| digits.parse().ok());
-    number.filter(|&number| number > 0).ok_or_else(|| {
+    let number = decimal(word).filter(|&number| number > 0);
+    number.ok_or_else(|| {
         usage(format!(
             "'{}' is no step: steps are counted from 1",
             word.display()
         ))
     })
+}
+
+fn made(option: &OsStr, rest: &[OsString]) -> Result<Request, Failure> {
+    let [seed, count, form @ ..] = rest else {
+        return Err(usage(match rest {
+            [seed] => format!("'{}' needs a count", seed.display()),
+            _ => format!("{} needs a seed and a count", option.display()),
+        }));
+    };
+    let request = match form {
+        [] => Request::Made,
+        [text] if text == "--text" => Request::MadeText,
+        [text, extra, ..] if text == "--text" => return Err(too_much(extra, text)),
+        [extra, ..] => return Err(too_much(extra, count)),
+    };
+    Ok(request(Pass {
+        seed: decimal(seed).ok_or_else(|| no_number(seed, "seed", u32::MAX.into()))?,
+        count: decimal(count).ok_or_else(|| no_number(count, "count", u64::MAX))?,
+    }))
+}
+
+fn no_number(word: &OsStr, sort: &str, highest: u64) -> Failure {
+    let word = word.display();
+    usage(format!(
+        "'{word}' is no {sort}: {sort}s are decimal numbers up to {highest}"
+    ))
+}
+
+/// The number of some decimal digits, without a sign.
+fn decimal<N: FromStr>(word: &OsStr) -> Option<N> {
+    let word = word.to_str()?;
+    let plain = word.bytes().all(|byte| byte.is_ascii_digit());
+    plain.then(|| word.parse().ok())?
 }
 
 /// The source that a word names; a word that begins with - is no file.

@@ -12,6 +12,9 @@ use std::time::SystemTime;
 /// The crate of the program that prints a run.
 pub const REPLAY: &str = "replay";
 
+/// The crate of the program that writes the log of a made-up pass.
+pub const MADE_UP: &str = "made_up";
+
 /// At most this many lines are shown of what went wrong.
 const SHOWN_OF_A_FAILURE: usize = 40;
 

@@ -5,7 +5,7 @@ use crate::input::Log;
 use crate::running::{hand_over, spawn, unreadable, Program};
 use std::io::Read;
 use std::path::Path;
-use std::process::Stdio;
+use std::process::{Command, Stdio};
 use std::sync::mpsc;
 use std::thread;
 
@@ -13,8 +13,9 @@ use std::thread;
 pub fn replay(program: &Path, log: Log) -> Result<(), Failure> {
     match log {
         Log::Whole(file) => {
-            let child = spawn(program, Stdio::from(file), Stdio::inherit())?;
-            Program::watched(child).end()
+            let mut command = Command::new(program);
+            let child = spawn(&mut command, Stdio::from(file), Stdio::inherit())?;
+            Program::watched(child).end().map(|_| ())
         }
         Log::Handed(bytes) => replay_handed(program, bytes),
     }
@@ -23,7 +24,7 @@ pub fn replay(program: &Path, log: Log) -> Result<(), Failure> {
 /// The log may still be open when the run has ended, after a 2 or 3: then
 /// nobody waits for its end.
 fn replay_handed(program: &Path, log: Box<dyn Read + Send>) -> Result<(), Failure> {
-    let mut child = spawn(program, Stdio::piped(), Stdio::inherit())?;
+    let mut child = spawn(&mut Command::new(program), Stdio::piped(), Stdio::inherit())?;
     let input = child.stdin.take().expect("standard input is piped");
     let (unread, told) = mpsc::channel();
     thread::spawn(move || {

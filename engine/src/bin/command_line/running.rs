@@ -1,11 +1,11 @@
-//! The proved program at work on a log: the log is handed to it, and what it
-//! prints is read while the log goes on.
+//! A proved program at work: a log is handed to it, and what it prints is read
+//! while the log goes on.
 
 use crate::failure::Failure;
 use crate::input::Log;
 use std::io::{self, BufReader, Cursor, ErrorKind, Read, Write};
 use std::path::Path;
-use std::process::{Child, ChildStderr, ChildStdin, ChildStdout, Command, Stdio};
+use std::process::{Child, ChildStderr, ChildStdin, ChildStdout, Command, ExitStatus, Stdio};
 use std::sync::mpsc::{self, Receiver};
 use std::thread::{self, JoinHandle};
 
@@ -19,7 +19,7 @@ pub struct Running {
     program: Program,
 }
 
-/// The program itself, and what it says on standard error.
+/// A program itself, and what it says on standard error.
 pub struct Program {
     child: Child,
     said: JoinHandle<bool>,
@@ -34,7 +34,7 @@ pub struct Pieces {
 
 /// Starts the program on a log, with its output piped.
 pub fn start(program: &Path, log: Log) -> Result<Running, Failure> {
-    let mut child = spawn(program, Stdio::piped(), Stdio::piped())?;
+    let mut child = spawn(&mut Command::new(program), Stdio::piped(), Stdio::piped())?;
     let (pieces, coming) = mpsc::channel();
     let input = child.stdin.take().expect("standard input is piped");
     let printed = child.stdout.take().expect("standard output is piped");
@@ -52,14 +52,13 @@ pub fn start(program: &Path, log: Log) -> Result<Running, Failure> {
     })
 }
 
-/// Starts the program.
-pub fn spawn(program: &Path, input: Stdio, output: Stdio) -> Result<Child, Failure> {
-    Command::new(program)
-        .stdin(input)
-        .stdout(output)
-        .stderr(Stdio::piped())
-        .spawn()
-        .map_err(|error| Failure::Told(format!("{} cannot be run: {error}", program.display())))
+/// Starts a program, with its standard error piped.
+pub fn spawn(command: &mut Command, input: Stdio, output: Stdio) -> Result<Child, Failure> {
+    command.stdin(input).stdout(output).stderr(Stdio::piped());
+    command.spawn().map_err(|error| {
+        let program = command.get_program().display();
+        Failure::Told(format!("{program} cannot be run: {error}"))
+    })
 }
 
 impl Running {
@@ -84,16 +83,20 @@ impl Program {
     }
 
     /// Waits for the program's end. It has no exit status of its own: it says
-    /// what failed. Where a signal ends it, its reader went away.
-    pub fn end(mut self) -> Result<(), Failure> {
+    /// what failed. A signal ends it where its reader went away.
+    pub fn end(mut self) -> Result<ExitStatus, Failure> {
         let ended = self.child.wait();
         if self.said.join().expect("passing on does not panic") {
             return Err(Failure::SaidAlready);
         }
-        match ended {
-            Ok(_) => Ok(()),
-            Err(error) => Err(Failure::Told(format!("the program got lost: {error}"))),
-        }
+        ended.map_err(|error| Failure::Told(format!("the program got lost: {error}")))
+    }
+
+    /// Ends the program, where nobody wants the rest of its work.
+    pub fn stop(mut self) -> Result<(), Failure> {
+        // Where it has ended by itself there is nothing to end.
+        let _ = self.child.kill();
+        self.end().map(|_| ())
     }
 }
 

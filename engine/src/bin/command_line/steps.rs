@@ -3,7 +3,10 @@
 use crate::failure::Failure;
 use engine::{Kind, Rank, Refusal, Step};
 use std::fmt;
-use std::io::{BufRead, BufReader, Read};
+use std::io::{self, BufRead, BufReader, Read};
+
+/// A send has the longest record.
+const LONGEST_RECORD: usize = 7;
 
 /// A line of the printed run.
 #[derive(Debug, PartialEq)]
@@ -116,12 +119,9 @@ impl<L: Read, P: BufRead> Lines<L, P> {
 
     /// The next record of the log.
     fn read_record(&mut self) -> Option<Step> {
-        let mut record = [0; 7];
-        self.log.read_exact(&mut record[..1]).ok()?;
-        let length = 1 + Kind::from_byte(record[0])?.body_length();
-        self.log.read_exact(&mut record[1..length]).ok()?;
-        self.position += length as u64;
-        Step::read(&record[..length]).ok().map(|(step, _)| step)
+        let step = next_record(&mut self.log).ok()??;
+        self.position += 1 + step.fields().0.body_length() as u64;
+        Some(step)
     }
 }
 
@@ -130,6 +130,22 @@ impl<L, P: Read> Lines<L, &mut BufReader<P>> {
     /// rest of it is not long to come.
     pub fn has_more_at_hand(&self) -> bool {
         !self.printed.buffer().is_empty()
+    }
+}
+
+/// The next record of a log, none at its end; an error where what stands there
+/// is no whole record.
+pub fn next_record(log: &mut impl BufRead) -> io::Result<Option<Step>> {
+    let Some(&byte) = log.fill_buf()?.first() else {
+        return Ok(None);
+    };
+    let body = Kind::from_byte(byte).map_or(0, Kind::body_length);
+    let mut record = [0; LONGEST_RECORD];
+    let record = &mut record[..1 + body];
+    log.read_exact(record)?;
+    match Step::read(record) {
+        Ok((step, _)) => Ok(Some(step)),
+        Err(refusal) => Err(io::Error::other(refusal.meaning())),
     }
 }
 
