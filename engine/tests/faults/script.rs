@@ -14,14 +14,18 @@ use std::process::{Command, Stdio};
 const ROOT: &str = concat!(env!("CARGO_MANIFEST_DIR"), "/..");
 
 /// A line of shell in the repository's root, where the script is. What the
-/// script would build, in its own time, is there before.
-fn shell(line: &str) -> Option<Command> {
+/// script would build for these arguments, in its own time, is there before.
+pub fn shell_after(arguments: &[&str], line: &str) -> Option<Command> {
     program_at(USUAL_PLACE)?;
-    build_release(&[]);
+    build_release(arguments);
     let mut command = Command::new("bash");
     command.args(["-c", line]).current_dir(ROOT);
     command.env("LC_ALL", "C").stdin(Stdio::null());
     Some(command)
+}
+
+fn shell(line: &str) -> Option<Command> {
+    shell_after(&[], line)
 }
 
 /// How a line of shell ends, with its output piped.
@@ -30,7 +34,7 @@ fn end_of(line: &str) -> Option<End> {
     Some(Running::start(command.stdout(Stdio::piped())).end())
 }
 
-fn assert_end(end: &End, code: i32, printed: &str, said: &str) {
+pub fn assert_end(end: &End, code: i32, printed: &str, said: &str) {
     let found = (end.status.code(), &end.printed[..], &end.said[..]);
     assert_eq!(found, (Some(code), printed, said));
 }

@@ -1,10 +1,10 @@
 //! A log of a million records: told in some seconds, and in as little memory
 //! as a short one.
 
+use crate::peak_memory::peak_memory_kib;
 use crate::program::{file_with, words};
 use engine::generate::{random_log, Mix};
 use engine::run_slice;
-use std::fs;
 use std::io::Read;
 use std::process::{Child, Stdio};
 use std::time::{Duration, Instant};
@@ -20,13 +20,6 @@ const MOST_MEMORY_KIB: u64 = 16 * 1_024;
 
 /// The memory is asked for after each so many bytes.
 const ASKED_APART: usize = 1 << 20;
-
-/// The most memory that a program has had so far; none where it has ended.
-fn peak_memory_kib(child: &Child) -> Option<u64> {
-    let status = fs::read_to_string(format!("/proc/{}/status", child.id())).ok()?;
-    let line = status.lines().find(|line| line.starts_with("VmHWM:"))?;
-    line.split_whitespace().nth(1)?.parse().ok()
-}
 
 /// All that a program prints, and the most memory that it had meanwhile.
 fn printed_and_peak(child: &mut Child) -> (Vec<u8>, u64) {

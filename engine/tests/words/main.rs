@@ -10,6 +10,8 @@ mod inputs;
 mod joining;
 mod long_log;
 mod moving;
+#[path = "../shared/peak_memory.rs"]
+mod peak_memory;
 mod program;
 #[path = "../shared/proved_program.rs"]
 mod proved_program;
