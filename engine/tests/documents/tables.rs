@@ -1,8 +1,11 @@
 //! Tables that explain: docs/REFUSALS.md has a row for each number.
 
 use crate::document::Document;
+use crate::made_up_program::MADE_UP;
+use crate::proved_program::program_at;
 use crate::table::{tables, Table};
 use engine::Refusal;
+use std::process::Command;
 
 /// The tables of a document.
 pub fn tables_of(name: &str) -> Vec<Table> {
@@ -35,6 +38,22 @@ fn every_refusal_is_explained() {
         Refusal::ALL.map(Refusal::number)[..],
         *Vec::from_iter(1..=25)
     );
+}
+
+/// The numbers go on behind those of the steps. The program, which has no
+/// buffer that could be too short, says the first in the table's words.
+#[test]
+fn refused_passes_are_explained() {
+    let header = "| Number | What it means for a made-up pass | What to do |";
+    let table = table_of("docs/REFUSALS.md", header);
+    let numbers: Vec<&str> = table.rows.iter().map(|row| &row[0][..]).collect();
+    assert_eq!(numbers, ["26", "27"]);
+    let Some(made_up) = program_at(MADE_UP) else {
+        return;
+    };
+    let output = Command::new(made_up).args(["0", "1"]).output().unwrap();
+    let said = format!("made_up: refused with 26: {}\n", table.rows[0][1]);
+    assert_eq!(String::from_utf8(output.stderr).unwrap(), said);
 }
 
 #[test]
