@@ -7,13 +7,13 @@ use std::fs::{self, File};
 use std::io::{Read, Write};
 use std::process::Stdio;
 
-/// The example of most steps, and how many it has.
-const LONGEST: &str = "move-in-mid-pass";
+/// An example of which every range can be drawn, and how many steps it has.
+const MOVE: &str = "move-in-mid-pass";
 const STEPS: usize = 23;
 
 #[test]
 fn a_wrong_range_gets_the_usage() {
-    let file = &example(LONGEST)[..];
+    let file = &example(MOVE)[..];
     for (arguments, problem) in [
         (&[][..], "--picture needs a file"),
         (&["--text"], "unknown option '--text'"),
@@ -82,7 +82,7 @@ fn what_is_too_large_is_told() {
 
 #[test]
 fn what_is_not_there_is_told() {
-    let file = example(LONGEST);
+    let file = example(MOVE);
     assert_told(
         &[&file, "24", "30"],
         "there is no step 24 to draw: the run has 23",
@@ -102,14 +102,14 @@ fn a_range_of_all_steps_is_the_whole() {
         let Some(whole) = draw(&[&file]) else { return };
         assert_eq!(whole, draw(&[&file, "1", "120"]).unwrap(), "{name}");
     }
-    let file = example(LONGEST);
+    let file = example(MOVE);
     let Some(whole) = draw(&[&file]) else { return };
     assert_eq!(whole, draw(&[&file, "1", &STEPS.to_string()]).unwrap());
 }
 
 #[test]
 fn every_range_has_its_steps() {
-    let file = example(LONGEST);
+    let file = example(MOVE);
     for from in 1..=STEPS {
         for to in from..=STEPS {
             let Some(end) = draw(&[&file, &from.to_string(), &to.to_string()]) else {
@@ -127,7 +127,7 @@ fn every_range_has_its_steps() {
 /// counted.
 #[test]
 fn what_a_range_does_not_touch_is_counted() {
-    let Some(end) = draw(&[&example(LONGEST), "10", "11"]) else {
+    let Some(end) = draw(&[&example(MOVE), "10", "11"]) else {
         return;
     };
     let picture = end.picture();
@@ -137,7 +137,7 @@ fn what_a_range_does_not_touch_is_counted() {
 
 #[test]
 fn standard_input_is_drawn_like_a_file() {
-    let file = example(LONGEST);
+    let file = example(MOVE);
     let text = fs::read_to_string(&file).unwrap();
     let log = file_with("input.log", &engine::text::encode(&text).unwrap());
     let Some(end) = draw(&[&file]) else { return };
@@ -165,7 +165,7 @@ fn a_log_that_begins_like_a_text_is_a_log() {
 /// A range's picture is there before the input ends.
 #[test]
 fn an_open_input_is_drawn_once_the_range_is_there() {
-    let text = fs::read_to_string(example(LONGEST)).unwrap();
+    let text = fs::read_to_string(example(MOVE)).unwrap();
     let log = engine::text::encode(&text).unwrap();
     let Some(mut command) = command(&["-", "2", "5"]) else {
         return;
