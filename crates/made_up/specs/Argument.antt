@@ -20,7 +20,9 @@ worth n (byte ∷ bytes) = worth (10 * n + (byte - 48)) bytes
 
 unfoldable pub numberIn : ℕ → List ℕ → Argument
 numberIn most text =
-    cond (ltb 0 (length text) && every isDigit text) (cond (leb (worth 0 text) most) (Number (worth 0 text)) (Wrong TooLarge)) (Wrong NoNumber)
+    cond (ltb 0 (length text) && every isDigit text)
+    (cond (leb (worth 0 text) most) (Number (worth 0 text)) (Wrong TooLarge))
+    (Wrong NoNumber)
 
 -- a number is at most so much
 abbrev pub Within : ℕ → Argument → Type 0

@@ -3,3 +3,4 @@ pub mod Argument
 pub mod Course
 pub mod Laws
 pub mod Piece
+pub mod Worked

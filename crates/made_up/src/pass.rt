@@ -10,8 +10,8 @@ use generator::Word;
 use generator::go_on;
 use libc::STDOUT_FILENO;
 
-// What a piece of the pass comes to: the number of the check that refused it or 0, the bytes at the buffer's front, the word that they leave,
-// and how many records are left.
+// What a piece of the pass comes to: the number of the check that refused it or 0, the bytes at the buffer's front, the word that they
+// leave, and how many records are left.
 pub struct Piece {
     pub number: u8,
     pub bytes: usize,

@@ -4,7 +4,7 @@ use crate::document::Document;
 use crate::made_up_program::MADE_UP;
 use crate::proved_program::program_at;
 use crate::table::{tables, Table};
-use engine::Refusal;
+use engine::{NotMade, Refusal};
 use std::process::Command;
 
 /// The tables of a document.
@@ -40,20 +40,23 @@ fn every_refusal_is_explained() {
     );
 }
 
-/// The numbers go on behind those of the steps. The program, which has no
-/// buffer that could be too short, says the first in the table's words.
+/// In the words of the second engine and of the program.
 #[test]
 fn refused_passes_are_explained() {
     let header = "| Number | What it means for a made-up pass | What to do |";
     let table = table_of("docs/REFUSALS.md", header);
-    let numbers: Vec<&str> = table.rows.iter().map(|row| &row[0][..]).collect();
-    assert_eq!(numbers, ["26", "27"]);
+    let rows = table.rows.iter();
+    let explained: Vec<String> = rows
+        .map(|row| format!("refused with {}: {}", row[0], row[1]))
+        .collect();
+    let told = [NotMade::SeedZero, NotMade::BufferShort].map(|check| check.to_string());
+    assert_eq!(explained, told);
     let Some(made_up) = program_at(MADE_UP) else {
         return;
     };
     let output = Command::new(made_up).args(["0", "1"]).output().unwrap();
-    let said = format!("made_up: refused with 26: {}\n", table.rows[0][1]);
-    assert_eq!(String::from_utf8(output.stderr).unwrap(), said);
+    let said = String::from_utf8(output.stderr).unwrap();
+    assert_eq!(said, format!("made_up: {}\n", told[0]));
 }
 
 #[test]

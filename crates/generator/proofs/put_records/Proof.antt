@@ -42,10 +42,11 @@ loop-again c =
 returns : tie.Need-returns Inv-loop μ-loop
 returns c =
     let here = c .before .loop in
-    let all : here .made ≡ c .before .before .before .args .n = omega arith in
+    let start = c .before .before .before in
+    let all : here .made ≡ start .args .n = omega arith in
     (rw all at (here .inv .0), rw all at (here .inv .1))
 
 pub put-records-spec : {M : Type 1} → statement M
 put-records-spec =
-    tie.close (tie.spec Inv-loop μ-loop loop-holds put-record-requires (λ c. search needs) (λ c. search needs) loop-again (λ c. search needs)
-    returns)
+    tie.close (tie.spec Inv-loop μ-loop loop-holds put-record-requires (λ c. search needs) (λ c. search needs) loop-again
+    (λ c. search needs) returns)

@@ -13,7 +13,6 @@ use Rattle.broker.specs.Kind.{Field, rankByte, hostByte, valueBytes, fieldLengt
 use Rattle.generator.specs.Draw.{words, draw}
 use Rattle.generator.specs.Laws.Draw.{draw-word, draw-zero}
 use Rattle.generator.specs.MadeUp.{
-  kinds,
   longest,
   drawn,
   body,
@@ -44,7 +43,8 @@ record-length word =
 -- No body of the kinds drawn has more than six bytes.
 record-within : (word : ℕ) → length (madeRecord word) ≤ longest
 record-within word =
-    let short : bodyLength (kindDrawn word) ≤ 6 = leb-true _ 6 (allBelow-at 13 (λ k. leb (bodyLength k) 6) refl (kindDrawn word) (omega arith)) in
+    let kind = kindDrawn word in
+    let short : bodyLength kind ≤ 6 = leb-true _ 6 (allBelow-at 13 (λ k. leb (bodyLength k) 6) refl kind (omega arith)) in
     rw (record-length word) (omega arith)
 
 -- "7 times n bytes" are enough for n records.
@@ -62,7 +62,9 @@ module _ (m : ℕ) where
   unfolding madeLog logLeaves
   log-goes-on zero word = rw zero-add
   log-goes-on (suc n) word =
-      rw (suc-add, append-assoc (madeRecord word) (madeLog n (recordLeaves word)) _) (ap (λ l. madeRecord word ++ l) (log-goes-on n (recordLeaves word)))
+      let first = madeRecord word in
+      let rest = recordLeaves word in
+      rw (suc-add, append-assoc first (madeLog n rest) _) (ap (λ l. first ++ l) (log-goes-on n rest))
 
   pub leaves-on : (n word : ℕ) → logLeaves (n + m) word ≡ logLeaves m (logLeaves n word)
   unfolding logLeaves

@@ -1,8 +1,8 @@
 -- A made-up log is read as the records that were made: each is whole, of a known kind, and names ranks and hosts that there are.
 -- Assumes nothing.
-use mathlib.Core.Path.{_≡_, refl, sym, _∙_}
-use mathlib.Core.Bool.{true, false, cond, _&&_, and-false}
-use mathlib.Core.List.{List, [], _∷_, _++_, append-assoc, append-nil}
+use mathlib.Core.Path.{_≡_, refl, _∙_}
+use mathlib.Core.Bool.{true, cond, _&&_, and-false}
+use mathlib.Core.List.{List, [], _++_, append-assoc, append-nil}
 use Prim.Native.Nat.{ℕ, zero, suc, _+_, _%_, _≤_, _<_}
 use native.Mathlib.Omega.{arith}
 use native.Mathlib.Nat.{mod-lt}
@@ -14,7 +14,7 @@ use Rattle.base.specs.Laws.Tests.{both, chosen}
 use Rattle.base.specs.Lists.{every}
 use Rattle.transit.specs.Message.{ranks, rank, isRank}
 use Rattle.broker.specs.Checks.{rankRange, hostRange}
-use Rattle.broker.specs.Kind.{Field, rankByte, hostByte, valueBytes, fieldsOf, bodyLength}
+use Rattle.broker.specs.Kind.{fieldsOf, bodyLength}
 use Rattle.broker.specs.Laws.Record.{whole, kind-between}
 use Rattle.broker.specs.Names.{hosts}
 use Rattle.broker.specs.Record.{decode, recordOf, firstRank, secondRank, namedHost}

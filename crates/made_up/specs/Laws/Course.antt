@@ -18,7 +18,8 @@ course-goes (further {word} {left} {written} pieced made course) =
     let n = pieceRecords left in
     let rest = left - n in
     let all : n + rest ≡ left = omega (arith, piece-records left .0) in
-    rw (piece-bytes pieced made, piece-word pieced made, pieced .rest, append-assoc written (madeLog n word) (madeLog rest (logLeaves n word)))
+    let parts = append-assoc written (madeLog n word) (madeLog rest (logLeaves n word)) in
+    rw (piece-bytes pieced made, piece-word pieced made, pieced .rest, parts)
     (rw (sym (log-goes-on rest n word), all) (course-goes course))
 
 -- Where no record is left, all that was written is the pass.

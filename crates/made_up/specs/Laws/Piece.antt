@@ -2,15 +2,15 @@
 use mathlib.Core.Path.{_≡_, sym, ap, _∙_}
 use mathlib.Core.List.{List}
 use mathlib.Core.Logic.{_≢_}
-use Prim.Native.Nat.{ℕ, _*_, _≤_, _<_}
+use Prim.Native.Nat.{ℕ, _≤_, _<_}
 use native.Mathlib.Omega.{arith}
 use borrow.Author.Tests.{lt-ltb, le-ltb}
-use lib.ListN.{length, take}
+use lib.ListN.{take}
 use Rattle.base.specs.Laws.Tests.{by-less}
 use Rattle.generator.specs.Answer.{Outcome, makes}
 use Rattle.generator.specs.Laws.Answer.{written, what-is-written}
 use Rattle.generator.specs.Laws.MadeUp.{log-within}
-use Rattle.generator.specs.MadeUp.{longest, madeLog, logLeaves}
+use Rattle.generator.specs.MadeUp.{madeLog, logLeaves}
 use Rattle.made_up.specs.Piece.{pieceMost, pieceRoom, pieceRecords, Pieced}
 use Rattle.made_up.specs.declared.pass.Piece.{Piece}
 

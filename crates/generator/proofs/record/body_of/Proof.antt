@@ -12,9 +12,11 @@ past m h other = omega arith
 returns-12 : tie.Need-returns-12
 returns-12 c =
     let rest = c .match .rest in
-    let five = rest .0 .0 .0 .0 .0 .0 in
-    let sixth = past 5 (past 4 (past 3 (past 2 (past 1 (past 0 (omega arith) (five .0 .0 .0 .0 .1)) (five .0 .0 .0 .1)) (five .0 .0 .1)) (five .0 .1)) (five .1)) (rest .0 .0 .0 .0 .0 .1) in
-    let later = past 10 (past 9 (past 8 (past 7 (past 6 sixth (rest .0 .0 .0 .0 .1)) (rest .0 .0 .0 .1)) (rest .0 .0 .1)) (rest .0 .1)) (rest .1) in
+    let early = rest .0 .0 .0 .0 .0 in
+    let third = past 2 (past 1 (past 0 (omega arith) (early .0 .0 .0 .0 .0 .1)) (early .0 .0 .0 .0 .1)) (early .0 .0 .0 .1) in
+    let sixth = past 5 (past 4 (past 3 third (early .0 .0 .1)) (early .0 .1)) (early .1) in
+    let ninth = past 8 (past 7 (past 6 sixth (rest .0 .0 .0 .0 .1)) (rest .0 .0 .0 .1)) (rest .0 .0 .1) in
+    let later = past 10 (past 9 ninth (rest .0 .1)) (rest .1) in
     let last : c .before .args .kind ≡ 12 = omega (arith, later) in
     rw last
 

@@ -12,7 +12,8 @@ returns c =
     let fields = behind .before .body-of .ensures in
     let kind = behind .before .before .before .before .before in
     let drawn = kind .before .before .draw .ensures in
-    (rw (fields, drawn) at (kind .put-byte .ensures then behind .put-body .ensures .0), rw (fields, drawn) at (behind .put-body .ensures .1))
+    let body = behind .put-body .ensures in
+    (rw (fields, drawn) at (kind .put-byte .ensures then body .0), rw (fields, drawn) at (body .1))
 
 pub put-record-spec : {M : Type 1} → statement M
 put-record-spec =

@@ -20,15 +20,19 @@ abbrev μ-loop : tie.MeasureT-loop
 
 returns : tie.Need-returns Inv-loop μ-loop
 returns c =
+    let tested = c .before .is-digit in
     let loop = c .before .before .before .before in
     let text = loop .before .before .args .text .now in
-    sym (loop .loop .inv .0 ∙ rw (drop-cons text (loop .loop .i) 0 (omega arith), ← c .before .is-digit .ensures, not-true (c .before .is-digit .result) (c .if1 .taken)))
+    let first = drop-cons text (loop .loop .i) 0 (omega arith) in
+    sym (loop .loop .inv .0 ∙ rw (first, ← tested .ensures, not-true (tested .result) (c .if1 .taken)))
 
 loop-again : tie.Need-loop-again Inv-loop μ-loop
 loop-again c =
+    let tested = c .before .is-digit in
     let loop = c .before .before .before .before in
     let text = loop .before .before .args .text .now in
-    (loop .loop .inv .0 ∙ rw (drop-cons text (loop .loop .i) 0 (omega arith), ← c .before .is-digit .ensures, not-false (c .before .is-digit .result) (c .if1 .left), add-one), omega arith)
+    let first = drop-cons text (loop .loop .i) 0 (omega arith) in
+    (loop .loop .inv .0 ∙ rw (first, ← tested .ensures, not-false (tested .result) (c .if1 .left), add-one), omega arith)
 
 returns-2 : tie.Need-returns-2 Inv-loop μ-loop
 returns-2 c =

@@ -5,7 +5,9 @@ use Rattle.made_up.proofs.argument.argument_at.Statement.{statement}
 use Rattle.made_up.proofs.argument.argument_at.Tie as tie
 
 returns-2 : tie.Need-returns-2
-returns-2 c = within (c .before .before .before .before .before .before .before .before .args .most) _ (c .number-in .ensures)
+returns-2 c =
+    let start = c .before .before .before .before .before .before .before .before in
+    within (start .args .most) _ (c .number-in .ensures)
 
 pub argument-at-spec : {M : Type 1} → statement M
 argument-at-spec =

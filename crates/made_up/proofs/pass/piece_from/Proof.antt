@@ -4,13 +4,19 @@ use Rattle.made_up.proofs.pass.piece_from.Statement.{statement}
 use Rattle.made_up.proofs.pass.piece_from.Tie as tie
 
 returns : tie.Need-returns
-returns c = rw (c .before .before .before .number .ensures, c .before .made .given .1)
+returns c =
+    let asked = c .before .before .before in
+    rw (asked .number .ensures, c .before .made .given .1)
 
 returns-2 : tie.Need-returns-2
-returns-2 c = rw (c .refused-piece .ensures, c .before .before .before .number .ensures, c .before .enum-told .given .1)
+returns-2 c =
+    let asked = c .before .before .before in
+    rw (c .refused-piece .ensures, asked .number .ensures, c .before .enum-told .given .1)
 
 returns-3 : tie.Need-returns-3
-returns-3 c = rw (c .refused-piece2 .ensures, c .before .before .before .number .ensures, c .before .enum-told2 .given .1)
+returns-3 c =
+    let asked = c .before .before .before in
+    rw (c .refused-piece2 .ensures, asked .number .ensures, c .before .enum-told2 .given .1)
 
 pub piece-from-spec : {M : Type 1} → statement M
 piece-from-spec =

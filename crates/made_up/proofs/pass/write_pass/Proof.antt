@@ -1,7 +1,7 @@
 -- `made_up::pass::write_pass` is safe and ends. The loop's invariant: the program stands so in the course of the pass, whose laws say what
 -- was written, and the buffer is as long as it was. Assumes nothing.
 use mathlib.Core.List.{[], _++_}
-use mathlib.Core.Path.{_≡_, sym, _∙_}
+use mathlib.Core.Path.{_≡_, sym}
 use native.Mathlib.Omega.{arith}
 use borrow.Author.Needs.{needs}
 use lib.ListN.{length, take}
@@ -28,11 +28,14 @@ array-share-prefix-buffer c =
 
 slice-aggregate-write-all : tie.Need-slice-aggregate-write-all Inv-loop μ-loop
 slice-aggregate-write-all c =
-    let fits = piece-fits (c .before .before .before .next-piece .ensures) (c .before .if1 .left) in
-    sym (length-take-le (c .before .before .before .next-piece .result .bytes) _ (omega arith))
+    let next = c .before .before .before in
+    let fits = piece-fits (next .next-piece .ensures) (c .before .if1 .left) in
+    sym (length-take-le (next .next-piece .result .bytes) _ (omega arith))
 
 loop-less : tie.Need-loop-less Inv-loop μ-loop
-loop-less c = piece-less (c .before .before .before .before .before .before .next-piece .ensures) (c .if3 .left)
+loop-less c =
+    let next = c .before .before .before .before .before .before in
+    piece-less (next .next-piece .ensures) (c .if3 .left)
 
 loop-again : tie.Need-loop-again Inv-loop μ-loop
 loop-again c =
