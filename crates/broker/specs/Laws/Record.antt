@@ -9,7 +9,7 @@ use native.Mathlib.Omega.{arith}
 use borrow.Author.Tests.{lt-ltb, le-ltb, le-leb, lt-leb}
 use lib.ListN.{getD, length}
 use Rattle.broker.specs.Kind
-use Rattle.broker.specs.Record.{recordOf, decode, valueOf}
+use Rattle.broker.specs.Record.{recordOf, decode, valueOf, bytesOf}
 use Rattle.broker.specs.declared.record.Decoded.the-variants.{Whole, Unknown, Cut}
 
 -- What stands at a position, by the tests that are made there.
@@ -49,8 +49,12 @@ four-digits :
     (v b0 v1 b1 v2 b2 b3 : ℕ) → v ≡ b0 + 256 * v1 → v1 ≡ b1 + 256 * v2 → v2 ≡ b2 + 256 * b3 → valueOf b0 b1 b2 b3 ≡ v
 four-digits v b0 v1 b1 v2 b2 b3 first second third = omega arith
 
+-- a byte of a value, the first being 0
+abbrev byte : ℕ → ℕ → ℕ
+byte v k = getD (bytesOf v) k 0
+
 -- The four bytes of a value give it back.
-pub value-back : (v : ℕ) → v < 2 ^ 32 → valueOf (v % 256) (v / 256 % 256) (v / 65536 % 256) (v / 16777216 % 256) ≡ v
+pub value-back : (v : ℕ) → v < 2 ^ 32 → valueOf (byte v 0) (byte v 1) (byte v 2) (byte v 3) ≡ v
 value-back v h =
     let second : v / 65536 ≡ v / 256 / 256 = sym (div-div-eq-div-mul v 256 256) in
     let third : v / 16777216 ≡ v / 65536 / 256 = sym (div-div-eq-div-mul v 65536 256) in

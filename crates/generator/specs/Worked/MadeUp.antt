@@ -2,7 +2,11 @@
 use mathlib.Core.Path.{_≡_, refl}
 use mathlib.Core.List.{List, [], _∷_, _++_}
 use Prim.Native.Nat.{ℕ}
+use Rattle.transit.specs.Message.{rank}
 use Rattle.broker.specs.Kind
+use Rattle.broker.specs.Record.{decode}
+use Rattle.broker.specs.declared.record.Decoded.the-variants.{Whole}
+use Rattle.broker.specs.declared.record.Record.the-variants.{Send}
 use Rattle.generator.specs.Draw.{draw}
 use Rattle.generator.specs.MadeUp.{madeRecord, recordLeaves, madeLog, logLeaves}
 
@@ -24,3 +28,8 @@ all-kinds = refl
 pub all-kinds-leave : logLeaves 19 50884 ≡ 8199040
 unfolding draw recordLeaves logLeaves
 all-kinds-leave = refl
+
+-- "a send's value is one whole draw": the first record of seed 7 is a send of the fourth draw
+pub whole-draw : decode (madeLog 1 7) 0 ≡ Whole (Send (rank 7) (rank 3) (draw (draw (draw (draw 7))))) 7
+unfolding draw madeRecord recordLeaves madeLog decode
+whole-draw = refl
