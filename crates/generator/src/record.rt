@@ -5,7 +5,7 @@ ghost use lib.ListN.{length};
 ghost use Rattle.page.specs.Put.{Put};
 ghost use Rattle.broker.specs.Kind.{fieldsOf};
 ghost use Rattle.broker.specs.Record.{bytesOf};
-ghost use Rattle.generator.specs.Body.{fieldsIn};
+ghost use Rattle.generator.specs.Body.{fieldsIn, hasSecond, secondBelow, hasValue};
 ghost use Rattle.generator.specs.MadeUp.{kinds, longest, body, bodyLeaves, madeRecord, recordLeaves};
 use crate::draw::draw;
 use page::put_byte;
@@ -25,25 +25,28 @@ pub enum Body {
     RanksAndValue,
 }
 
-// The body of a kind from 01 to 0C.
-fn body_of(kind: u8) -> Body
-    requires { ⌜ (0 < kind) × (kind ≤ kinds) ⌝ }
-    ensures { λ r. ⌜ fieldsIn r ≡ fieldsOf kind ⌝ }
+// The bodies of the kinds 01 to 0C.
+const BODIES: [Body; 12] = [
+    Body::RankAndHost,
+    Body::Ranks,
+    Body::Ranks,
+    Body::RanksAndValue,
+    Body::Ranks,
+    Body::RankAndHost,
+    Body::Ranks,
+    Body::Ranks,
+    Body::Rank,
+    Body::Ranks,
+    Body::Rank,
+    Body::Rank,
+];
+
+// The body of the kind that is 1 plus a number. It is looked up, not branched on: a kind that is drawn can't be foreseen.
+fn body_of(number: u32) -> Body
+    requires { ⌜ number < kinds ⌝ }
+    ensures { λ r. ⌜ fieldsIn r ≡ fieldsOf (1 + number) ⌝ }
 {
-    match kind {
-        1 => Body::RankAndHost,
-        2 => Body::Ranks,
-        3 => Body::Ranks,
-        4 => Body::RanksAndValue,
-        5 => Body::Ranks,
-        6 => Body::RankAndHost,
-        7 => Body::Ranks,
-        8 => Body::Ranks,
-        9 => Body::Rank,
-        10 => Body::Ranks,
-        11 => Body::Rank,
-        _ => Body::Rank,
-    }
+    BODIES[number as usize]
 }
 
 // The four bytes of a value, least significant first.
@@ -58,6 +61,40 @@ fn put_value(buffer: &mut [u8], used: usize, value: u32) -> usize
     put_four_bytes(buffer, used, b0, b1, b2, b3)
 }
 
+fn has_second(fields: Body) -> bool
+    ensures { λ r. ⌜ r ≡ hasSecond fields ⌝ }
+{
+    match fields {
+        Body::Rank => false,
+        Body::RankAndHost => true,
+        Body::Ranks => true,
+        Body::RanksAndValue => true,
+    }
+}
+
+// What the second byte of a body is below: it is a host or a rank.
+fn second_below(fields: Body) -> u32
+    ensures { λ r. ⌜ r ≡ secondBelow fields ⌝ }
+{
+    match fields {
+        Body::Rank => 16,
+        Body::RankAndHost => 8,
+        Body::Ranks => 16,
+        Body::RanksAndValue => 16,
+    }
+}
+
+fn has_value(fields: Body) -> bool
+    ensures { λ r. ⌜ r ≡ hasValue fields ⌝ }
+{
+    match fields {
+        Body::Rank => false,
+        Body::RankAndHost => false,
+        Body::Ranks => false,
+        Body::RanksAndValue => true,
+    }
+}
+
 // A body, each field from a draw of its own. Every body begins with a rank.
 fn put_body(buffer: &mut [u8], used: usize, fields: Body, word: u32) -> Standing
     requires { ⌜ used + 6 ≤ length (now buffer) ⌝ }
@@ -65,28 +102,25 @@ fn put_body(buffer: &mut [u8], used: usize, fields: Body, word: u32) -> Standing
     ensures left { λ r. ⌜ r .word ≡ bodyLeaves (fieldsIn fields) word ⌝ }
 {
     let first = draw(word);
-    let mut at = put_byte(buffer, used, (first % 16) as u8);
-    let mut last = first;
-    match fields {
-        Body::Rank => {}
-        Body::RankAndHost => {
-            last = draw(first);
-            at = put_byte(buffer, at, (last % 8) as u8);
-        }
-        Body::Ranks => {
-            last = draw(first);
-            at = put_byte(buffer, at, (last % 16) as u8);
-        }
-        Body::RanksAndValue => {
-            let second = draw(first);
-            at = put_byte(buffer, at, (second % 16) as u8);
-            last = draw(second);
-            at = put_value(buffer, at, last);
-        }
+    let one = put_byte(buffer, used, (first % 16) as u8);
+    if !has_second(fields) {
+        return Standing {
+            used: one,
+            word: first,
+        };
     }
+    let second = draw(first);
+    let two = put_byte(buffer, one, (second % second_below(fields)) as u8);
+    if !has_value(fields) {
+        return Standing {
+            used: two,
+            word: second,
+        };
+    }
+    let value = draw(second);
     Standing {
-        used: at,
-        word: last,
+        used: put_value(buffer, two, value),
+        word: value,
     }
 }
 
@@ -97,7 +131,7 @@ pub fn put_record(buffer: &mut [u8], used: usize, word: u32) -> Standing
     ensures left { λ r. ⌜ r .word ≡ recordLeaves word ⌝ }
 {
     let first = draw(word);
-    let kind = (1 + first % 12) as u8;
-    let at = put_byte(buffer, used, kind);
-    put_body(buffer, at, body_of(kind), first)
+    let number = first % 12;
+    let at = put_byte(buffer, used, (1 + number) as u8);
+    put_body(buffer, at, body_of(number), first)
 }

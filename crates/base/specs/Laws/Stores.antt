@@ -1,4 +1,4 @@
--- A list after a store: its length, what is read, and how many pass a test. Assumes nothing.
+-- What is read inside a list; a list after a store: its length, what is read, and how many pass a test. Assumes nothing.
 use mathlib.Core.Bool.{Bool, cond}
 use mathlib.Core.List.{List, [], _∷_, map}
 use mathlib.Core.Logic.{_≢_}
@@ -13,6 +13,12 @@ use Rattle.base.specs.Lists.{tally}
 use Rattle.base.specs.Laws.Tests.{by-test, by-equal}
 
 module _ {A : Type 0} where
+  -- what is read inside a list is the same with another default
+  pub any-default : (l : List A) (n : ℕ) (d e : A) → n < length l → getD l n d ≡ getD l n e
+  any-default [] n d e inside = absurd (omega arith)
+  any-default (x ∷ l) zero d e inside = refl
+  any-default (x ∷ l) (suc n) d e inside = any-default l n d e (omega arith)
+
   -- a list is as long after a store
   pub long-set : (n : ℕ) (l : List A) (i : ℕ) (x : A) → length l ≡ n → length (set l i x) ≡ n
   long-set n l i x e = rw length-set e

@@ -1,27 +1,31 @@
--- `generator::record::body_of` meets its contract: each arm has its kind, and the last one kind 12. Assumes nothing.
-use mathlib.Core.Path.{_≡_}
-use Prim.Native.Nat.{ℕ, suc, _<_}
+-- `generator::record::body_of` meets its contract: the fields of the listed bodies are those of the kinds. Assumes nothing.
+use mathlib.Core.List.{List, [], _∷_, map}
+use mathlib.Core.Path.{_≡_, refl, sym, ap, _∙_}
+use Prim.Native.Nat.{ℕ, suc, _+_, _<_}
 use native.Mathlib.Omega.{arith}
+use borrow.Author.Needs.{needs}
+use lib.ListN.{length, getD, List·getD-map}
+use Rattle.base.specs.Laws.Stores.{any-default}
+use Rattle.broker.specs.Kind.{Field, bodies, fieldsOf}
+use Rattle.generator.specs.Body.{fieldsIn}
+use Rattle.generator.specs.declared.record.Body.{Body}
+use Rattle.generator.specs.declared.record.Body.the-variants.{Rank, RankAndHost, Ranks, RanksAndValue}
 use Rattle.generator.proofs.record.body_of.Statement.{statement}
 use Rattle.generator.proofs.record.body_of.Tie as tie
 
--- A number past one that is not the next is past the next.
-past : {k : ℕ} (m : ℕ) → m < k → (k ≡ suc m → ⊥) → suc m < k
-past m h other = omega arith
+-- Where the bodies of the kinds, behind that of 00, are those of a list, so is the body of each kind.
+fields-at : (l : List Body) (n : ℕ) → bodies ≡ [] ∷ map fieldsIn l → n < length (map fieldsIn l)
+    → fieldsIn (getD l n Rank) ≡ fieldsOf (1 + n)
+fields-at l n same h =
+    let next : 1 + n ≡ suc n = omega arith in
+    sym (List·getD-map fieldsIn l n Rank) ∙ any-default (map fieldsIn l) n (fieldsIn Rank) [] h
+    ∙ ap (λ (all : List (List Field)). getD all (suc n) []) (sym same) ∙ rw next
 
-returns-12 : tie.Need-returns-12
-returns-12 c =
-    let rest = c .match .rest in
-    let early = rest .0 .0 .0 .0 .0 in
-    let third = past 2 (past 1 (past 0 (omega arith) (early .0 .0 .0 .0 .0 .1)) (early .0 .0 .0 .0 .1)) (early .0 .0 .0 .1) in
-    let sixth = past 5 (past 4 (past 3 third (early .0 .0 .1)) (early .0 .1)) (early .1) in
-    let ninth = past 8 (past 7 (past 6 sixth (rest .0 .0 .0 .0 .1)) (rest .0 .0 .0 .1)) (rest .0 .0 .1) in
-    let later = past 10 (past 9 ninth (rest .0 .1)) (rest .1) in
-    let last : c .before .args .kind ≡ 12 = omega (arith, later) in
-    rw last
+returns : tie.Need-returns
+returns c =
+    fields-at
+    (RankAndHost ∷ Ranks ∷ Ranks ∷ RanksAndValue ∷ Ranks ∷ RankAndHost ∷ Ranks ∷ Ranks ∷ Rank ∷ Ranks ∷ Rank ∷ Rank ∷ [])
+    (c .before .args .number) refl (c .before .pre)
 
 pub body-of-spec : {M : Type 1} → statement M
-body-of-spec =
-    tie.close (tie.spec (λ c. rw (c .match .keys1)) (λ c. rw (c .match .keys2)) (λ c. rw (c .match .keys3)) (λ c. rw (c .match .keys4))
-    (λ c. rw (c .match .keys5)) (λ c. rw (c .match .keys6)) (λ c. rw (c .match .keys7)) (λ c. rw (c .match .keys8))
-    (λ c. rw (c .match .keys9)) (λ c. rw (c .match .keys10)) (λ c. rw (c .match .keys11)) returns-12)
+body-of-spec = tie.close (tie.spec (λ c. search needs) returns)

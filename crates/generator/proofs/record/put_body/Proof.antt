@@ -1,54 +1,72 @@
--- `generator::record::put_body` meets its contract: a field behind a field. Assumes nothing.
+-- `generator::record::put_body` meets its contract: a field behind a field, as many as the body has. Assumes nothing.
+use mathlib.Core.Path.{sym, _∙_}
+use native.Mathlib.Nat.{mod-lt}
 use native.Mathlib.Omega.{arith}
 use borrow.Author.Needs.{needs}
-use Rattle.page.specs.Laws.Put.{_then_, at-most}
+use borrow.Author.Tests.{not-true, not-false}
+use Rattle.generator.specs.Laws.Body.{second-within, one-field, two-fields, three-fields}
+use Rattle.page.specs.Laws.Put.{_then_, as-text, at-most}
 use Rattle.generator.proofs.record.put_body.Statement.{statement}
 use Rattle.generator.proofs.record.put_body.Tie as tie
 
 returns : tie.Need-returns
 returns c =
-    let first = c .before .before .before .before in
-    let drawn = first .before .before .draw .ensures in
-    rw (c .enum-told .given .1) (at-most (rw drawn at (first .put-byte .ensures)) (omega arith), drawn)
+    let asked = c .before in
+    let first = asked .before .before .before in
+    let drawn = first .before .before in
+    let args = drawn .before .before .args in
+    let word = drawn .draw .ensures in
+    let one = one-field (args .word) (args .fields) (sym (asked .has-second .ensures) ∙ not-true _ (c .if1 .taken)) in
+    (as-text (at-most (rw word at (first .put-byte .ensures)) (omega arith)) (one .drawn), word ∙ one .leaves)
+
+rem-put-byte : tie.Need-rem-put-byte
+rem-put-byte c =
+    let asked = c .before .before .before .before in
+    let start = asked .before .before .before .before .before .before .before in
+    omega (arith, second-within (start .args .fields) .0, c .second-below .ensures)
+
+cast-put-byte-2 : tie.Need-cast-put-byte-2
+cast-put-byte-2 c =
+    let asked = c .before .before .before .before in
+    let start = asked .before .before .before .before .before .before .before in
+    let within = second-within (start .args .fields) in
+    rw (c .second-below .ensures) (omega (arith, mod-lt (c .before .before .draw2 .result) (within .0), within .1))
 
 returns-2 : tie.Need-returns-2
 returns-2 c =
-    let second = c .before .before in
-    let host = second .before .before .draw2 .ensures in
-    let chosen = second .before .before .before in
-    let first = chosen .before .before .before .before in
-    let drawn = first .before .before .draw .ensures in
-    rw (chosen .enum-told2 .given .1)
-    (at-most (rw (host, drawn) at (first .put-byte .ensures then second .put-byte2 .ensures)) (omega arith), rw drawn at host)
+    let valued = c .before in
+    let second = valued .before .before .before in
+    let below = second .before in
+    let next = below .before .before in
+    let asked = next .before .before in
+    let first = asked .before .before .before in
+    let drawn = first .before .before in
+    let args = drawn .before .before .args in
+    let some = sym (asked .has-second .ensures) ∙ not-false _ (next .before .if1 .left) in
+    let two = two-fields (args .word) (args .fields) some (sym (valued .has-value .ensures) ∙ not-true _ (c .if2 .taken)) in
+    let word = rw (drawn .draw .ensures) at (next .draw2 .ensures) in
+    let put = first .put-byte .ensures then second .put-byte2 .ensures in
+    (as-text (at-most (rw (word, below .second-below .ensures, drawn .draw .ensures) at put) (omega arith)) (two .drawn), word ∙ two .leaves)
 
 returns-3 : tie.Need-returns-3
 returns-3 c =
-    let second = c .before .before in
-    let rank = second .before .before .draw3 .ensures in
-    let chosen = second .before .before .before in
-    let first = chosen .before .before .before .before in
-    let drawn = first .before .before .draw .ensures in
-    rw (chosen .enum-told3 .given .1)
-    (at-most (rw (rank, drawn) at (first .put-byte .ensures then second .put-byte3 .ensures)) (omega arith), rw drawn at rank)
-
-returns-4 : tie.Need-returns-4
-returns-4 c =
     let third = c .before .before in
-    let value = third .before .before .draw5 .ensures in
-    let second = third .before .before .before .before .before in
-    let rank = second .before .before .draw4 .ensures in
-    let chosen = second .before .before .before in
-    let first = chosen .before .before .before .before in
-    let drawn = first .before .before .draw .ensures in
-    rw (chosen .enum-told4 .given .1) (
-      rw (value, rank, drawn) at (first .put-byte .ensures then second .put-byte4 .ensures then third .put-value .ensures),
-      rw (rank, drawn) at value,
-    )
+    let last = third .before .before in
+    let valued = last .before .before in
+    let second = valued .before .before .before in
+    let below = second .before in
+    let next = below .before .before in
+    let first = next .before .before .before .before .before in
+    let drawn = first .before .before in
+    let args = drawn .before .before .args in
+    let three = three-fields (args .word) (args .fields) (sym (valued .has-value .ensures) ∙ not-false _ (last .before .if2 .left)) in
+    let word = rw (drawn .draw .ensures) at (next .draw2 .ensures) in
+    let value = rw word at (last .draw3 .ensures) in
+    let put = first .put-byte .ensures then second .put-byte2 .ensures then third .put-value .ensures in
+    (as-text (rw (value, word, below .second-below .ensures, drawn .draw .ensures) at put) (three .drawn), value ∙ three .leaves)
 
 pub put-body-spec : {M : Type 1} → statement M
 put-body-spec =
-    tie.close (tie.spec (λ c κs. search needs) (λ c. search needs) (λ c κs. search needs) (λ c. search needs) (λ c. search needs)
-    (λ c κs. search needs) (λ c. search needs) (λ c κs. search needs) (λ c. search needs) (λ c κs. search needs) (λ c. search needs)
-    (λ c κs. search needs) (λ c. search needs) (λ c κs. search needs) (λ c. search needs) (λ c κs. search needs) (λ c κs. search needs)
-    (λ c κs. search needs) (λ c. search needs) returns (λ c. search needs) returns-2 (λ c. search needs) returns-3 (λ c. search needs)
-    returns-4)
+    tie.close (tie.spec (λ c κs. search needs) (λ c. search needs) (λ c κs. search needs) (λ c κs. search needs) (λ c. search needs) returns
+    (λ c κs. search needs) (λ c κs. search needs) rem-put-byte cast-put-byte-2 (λ c κs. search needs) (λ c κs. search needs)
+    (λ c. search needs) returns-2 (λ c κs. search needs) (λ c κs. search needs) (λ c. search needs) returns-3)
