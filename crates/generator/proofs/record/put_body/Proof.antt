@@ -45,8 +45,9 @@ returns-2 c =
     let some = sym (asked .has-second .ensures) ∙ not-false _ (next .before .if1 .left) in
     let two = two-fields (args .word) (args .fields) some (sym (valued .has-value .ensures) ∙ not-true _ (c .if2 .taken)) in
     let word = rw (drawn .draw .ensures) at (next .draw2 .ensures) in
-    let put = first .put-byte .ensures then second .put-byte2 .ensures in
-    (as-text (at-most (rw (word, below .second-below .ensures, drawn .draw .ensures) at put) (omega arith)) (two .drawn), word ∙ two .leaves)
+    let both = first .put-byte .ensures then second .put-byte2 .ensures in
+    let put = rw (word, below .second-below .ensures, drawn .draw .ensures) at both in
+    (as-text (at-most put (omega arith)) (two .drawn), word ∙ two .leaves)
 
 returns-3 : tie.Need-returns-3
 returns-3 c =
