@@ -20,7 +20,9 @@ made_up: generator io
 other: base
 ";
 
-/// A repository of some crates below the programs', and the feigned kit.
+/// A repository of some crates below the programs', and the feigned kit. Its
+/// sources have no endings: the kit itself, which looks for sources in all
+/// folders, would miss them in the list of crates.
 struct Repository {
     folder: PathBuf,
 }
@@ -53,8 +55,8 @@ impl Repository {
         }
         let repository = Repository { folder };
         repository.write("crates.txt", CRATES);
-        repository.write("crates/base/specs/Lib.antt", "");
-        repository.write("crates/replay/src/main.rt", "");
+        repository.write("crates/base/specs/Lib", "");
+        repository.write("crates/replay/src/main", "");
         repository.write("crates/replay/stdin", "");
         put_program(&repository.folder.join("kit/rt"), KIT);
         repository
@@ -124,10 +126,10 @@ fn only_what_a_request_needs_is_built() {
     assert_eq!(repository.called(), "check made_up\n");
     assert_eq!(repository.asked(&replayed), ran(BUILT));
     assert_eq!(repository.called(), "check made_up\ncheck replay\n");
-    repository.write("crates/generator/src/lib.rt", "");
+    repository.write("crates/generator/src/lib", "");
     assert_eq!(repository.with_kit(), ran(""));
     assert_eq!(repository.asked(&replayed), ran(&built));
-    repository.write("crates/base/specs/Lib.antt", "");
+    repository.write("crates/base/specs/Lib", "");
     assert_eq!(repository.asked(&text), nothing(""));
     assert_eq!(repository.asked(&replayed), ran(BUILT));
     assert_eq!(repository.calls(), 4);
@@ -138,16 +140,16 @@ fn a_change_of_the_sources_builds_anew() {
     let repository = Repository::new("changed");
     repository.with_kit();
     for (calls, file) in [
-        (2, "crates/replay/src/main.rt"),
-        (3, "crates/base/specs/Lib.antt"),
-        (4, "crates/base/specs/New.antt"),
+        (2, "crates/replay/src/main"),
+        (3, "crates/base/specs/Lib"),
+        (4, "crates/base/specs/New"),
         (5, "crates.txt"),
     ] {
         repository.write(file, CRATES);
         assert_eq!(repository.with_kit(), ran(BUILT), "{file}");
         assert_eq!(repository.calls(), calls, "{file}");
     }
-    fs::remove_file(repository.folder.join("crates/base/specs/New.antt")).unwrap();
+    fs::remove_file(repository.folder.join("crates/base/specs/New")).unwrap();
     assert_eq!(repository.with_kit(), ran(BUILT));
     fs::remove_file(repository.folder.join("target/bin/replay")).unwrap();
     assert_eq!(repository.with_kit(), ran(BUILT));
@@ -159,7 +161,7 @@ fn a_change_elsewhere_builds_nothing() {
     let repository = Repository::new("elsewhere");
     repository.with_kit();
     fs::create_dir_all(repository.folder.join("crates/other/src")).unwrap();
-    repository.write("crates/other/src/main.rt", "");
+    repository.write("crates/other/src/main", "");
     repository.write("README.md", "");
     assert_eq!(repository.with_kit(), ran(""));
 }
