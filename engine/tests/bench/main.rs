@@ -1,15 +1,19 @@
 //! The program `bench` on small inputs: its tables, that it fails where the
 //! outputs differ, and that it leaves nothing behind.
 
+#[path = "../shared/feigned_program.rs"]
+mod feigned_program;
 #[path = "../shared/proved_program.rs"]
 mod proved_program;
 #[path = "../shared/timing_program.rs"]
 mod timing_program;
 
+use feigned_program::root_with;
 use proved_program::{program_at, USUAL_PLACE};
 use std::ffi::OsStr;
 use std::fs;
 use std::ops::RangeInclusive;
+use std::path::PathBuf;
 use std::process::{Command, Output};
 use timing_program::TIMING;
 
@@ -35,6 +39,12 @@ fn bench(name: &str, replay: impl AsRef<OsStr>, engine: &str, timing: impl AsRef
         .unwrap();
     assert_eq!(fs::read_dir(&folder).unwrap().count(), 0, "in {folder}");
     output
+}
+
+/// Some lines of shell as a program of this name.
+fn feigned(name: &str, lines: &str) -> PathBuf {
+    let root = root_with(name, &[(name, lines)]);
+    root.join("target/bin").join(name)
 }
 
 /// The numbers of a table's row, without their commas.
@@ -98,15 +108,31 @@ fn a_small_run_prints_a_row_for_each_input_and_each_call() {
     }
 }
 
+/// The run ended with 1, printed nothing and told that the outputs differ.
+fn assert_differ(output: Output) {
+    assert_eq!(output.status.code(), Some(1));
+    assert_eq!(output.stdout, b"");
+    let said = String::from_utf8(output.stderr).unwrap();
+    let problem = "the outputs of the two programs differ\n";
+    assert!(said.ends_with(problem), "{said}");
+}
+
 #[test]
 fn programs_that_differ_are_told() {
     for (replay, engine) in [(ENGINE, "cat"), ("/bin/cat", ENGINE)] {
-        let output = bench("bench-differ", replay, engine, ENGINE);
-        assert_eq!(output.status.code(), Some(1));
-        assert_eq!(output.stdout, b"");
-        let said = String::from_utf8(output.stderr).unwrap();
-        let problem = "the outputs of the two programs differ\n";
-        assert!(said.ends_with(problem), "{said}");
+        assert_differ(bench("bench-differ", replay, engine, ENGINE));
+    }
+}
+
+/// At the end of outputs that are equal so far, which is many pieces from their
+/// start.
+#[test]
+fn programs_that_differ_late_are_told() {
+    for change in ["head -c -1", "sed '$a more'", "sed '$s/end/and/'"] {
+        let changed = feigned("changed-run", &format!("{ENGINE} | {change}"));
+        let changed = changed.to_str().unwrap();
+        assert_differ(bench("bench-late", changed, ENGINE, ENGINE));
+        assert_differ(bench("bench-late", ENGINE, changed, ENGINE));
     }
 }
 

@@ -2,9 +2,10 @@
 //! and what each costs; and any program on an input.
 
 use crate::cost::Cost;
-use std::fs;
+use std::fs::{self, File};
+use std::io::{self, BufRead, BufReader};
 use std::path::{Path, PathBuf};
-use std::{env, io, process};
+use std::{env, process};
 
 /// Each program is run so often on an input.
 pub const ROUNDS: usize = 3;
@@ -62,8 +63,7 @@ impl Folder {
                 proved: Cost::of_run(&programs.proved, &place, &outputs[0])?,
                 rust: Cost::of_run(&programs.rust, &place, &outputs[1])?,
             });
-            let [proved, rust] = outputs.each_ref().map(fs::read);
-            if proved.map_err(unusable)? != rust.map_err(unusable)? {
+            if !have_same_bytes(&outputs).map_err(unusable)? {
                 return Err("the outputs of the two programs differ".to_owned());
             }
         }
@@ -76,6 +76,25 @@ impl Folder {
         fs::write(&place, input).map_err(unusable)?;
         let cost = Cost::of_run(program, &place, &output)?;
         Ok((cost, fs::read(&output).map_err(unusable)?))
+    }
+}
+
+/// Whether two files are equal. They are read piece by piece: neither has to
+/// fit into memory.
+fn have_same_bytes(files: &[PathBuf; 2]) -> io::Result<bool> {
+    let mut first = BufReader::new(File::open(&files[0])?);
+    let mut second = BufReader::new(File::open(&files[1])?);
+    loop {
+        let (one, other) = (first.fill_buf()?, second.fill_buf()?);
+        let length = one.len().min(other.len());
+        if length == 0 {
+            return Ok(one.len() == other.len());
+        }
+        if one[..length] != other[..length] {
+            return Ok(false);
+        }
+        first.consume(length);
+        second.consume(length);
     }
 }
 
