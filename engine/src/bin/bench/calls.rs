@@ -4,6 +4,7 @@
 use crate::cost::Cost;
 use crate::measure::{Folder, ROUNDS};
 use crate::pass::Pass;
+use crate::table;
 use engine::{Rank, Step};
 use std::path::Path;
 use std::time::Duration;
@@ -11,13 +12,13 @@ use std::time::Duration;
 /// A call, by its name for the table and by the byte that asks for it, and how
 /// many times more often it is made than the slow ones.
 #[derive(Clone, Copy)]
-pub struct Call {
-    pub name: &'static str,
+struct Call {
+    name: &'static str,
     byte: u8,
     oftener: u32,
 }
 
-pub const CALLS: [Call; 4] = [
+const CALLS: [Call; 4] = [
     Call {
         name: "`step`, by value",
         byte: 1,
@@ -43,15 +44,33 @@ const IS_SOUND: Call = Call {
 };
 
 /// How many messages are unread, a column for each.
-pub const UNREAD: [usize; 3] = [0, 400, 1_000];
+const UNREAD: [usize; 3] = [0, 400, 1_000];
 
 /// The rank of the step that is measured, a look, which leaves the state as it
 /// is.
 const LOOKING: Rank = Rank(0);
 
+/// A call is made once for so many records of an input.
+const RECORDS_A_CALL: usize = 40;
+
+/// The table of the calls' times, by a program that makes them. They are made
+/// the oftener, the more records an input has.
+pub fn times(folder: &Folder, program: &Path, records: usize) -> Result<String, String> {
+    let mut text = table::calls_header(UNREAD);
+    let more = (records / RECORDS_A_CALL).max(1) as u32;
+    for call in CALLS {
+        let mut times = [0.0; UNREAD.len()];
+        for (time, unread) in times.iter_mut().zip(UNREAD) {
+            *time = microseconds(folder, program, call, unread, more)?;
+        }
+        text += &table::calls_row(call.name, times);
+    }
+    Ok(text)
+}
+
 /// The microseconds of a call with so many messages unread: the time of so
 /// many calls more, by their number.
-pub fn microseconds(
+fn microseconds(
     folder: &Folder,
     program: &Path,
     call: Call,

@@ -10,11 +10,10 @@ use std::{env, process};
 /// Each program is run so often on an input.
 pub const ROUNDS: usize = 3;
 
-/// The two programs to measure, and the one that makes the library's calls.
-pub struct Programs {
+/// A proved program, and the Rust program for the same work.
+pub struct Counterparts {
     pub proved: PathBuf,
     pub rust: PathBuf,
-    pub timing: PathBuf,
 }
 
 /// What the two programs cost.
@@ -53,7 +52,7 @@ impl Folder {
 
     /// Runs both programs in turns on a log. Their outputs must be equal each
     /// time.
-    pub fn measure(&self, programs: &Programs, log: &[u8]) -> Result<Costs, String> {
+    pub fn measure(&self, programs: &Counterparts, log: &[u8]) -> Result<Costs, String> {
         let place = self.0.join("log");
         let outputs = ["proved", "rust"].map(|name| self.0.join(name));
         fs::write(&place, log).map_err(unusable)?;

@@ -1,6 +1,6 @@
 //! What the command line asks for.
 
-use crate::measure::Programs;
+use crate::measure::Counterparts;
 use std::env;
 use std::ffi::OsString;
 use std::path::PathBuf;
@@ -18,6 +18,13 @@ pub struct Options {
     replay: Option<PathBuf>,
     engine: Option<PathBuf>,
     timing: Option<PathBuf>,
+}
+
+/// The programs to measure: those that print runs, and the one that makes the
+/// library's calls.
+pub struct Programs {
+    pub replay: Counterparts,
+    pub timing: PathBuf,
 }
 
 impl Options {
@@ -46,11 +53,8 @@ impl Options {
         let proved = proved_program(&self.replay, "replay")?;
         let timing = proved_program(&self.timing, "timing")?;
         let rust = self.engine.clone().map_or_else(build_engine, Ok)?;
-        Ok(Programs {
-            proved,
-            rust,
-            timing,
-        })
+        let replay = Counterparts { proved, rust };
+        Ok(Programs { replay, timing })
     }
 }
 

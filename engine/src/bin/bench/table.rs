@@ -3,63 +3,75 @@
 use crate::cost::Cost;
 use crate::input::Counts;
 use crate::measure::Costs;
+use std::borrow::Borrow;
 use std::time::Duration;
 
-pub const HEADER: &str = "\
-| Input | Records | Accepted | Refused | Mean unread | Proved, records/s | Rust, records/s | Rust / proved |
-|---|---:|---:|---:|---:|---:|---:|---:|
-";
+/// Two programs side by side: the table of their speed, and their rows in the
+/// table of memory.
+pub struct SideBySide {
+    pub speed: String,
+    pub memory: String,
+}
 
-/// What an input came to.
-pub fn row(name: &str, counts: &Counts, costs: &Costs) -> String {
-    let (proved, rust) = (costs.proved.time, costs.rust.time);
+/// The columns of two programs' speed.
+const SPEED: [&str; 3] = ["Proved, records/s", "Rust, records/s", "Rust / proved"];
+
+pub fn runs_header() -> String {
+    let counts = ["Records", "Accepted", "Refused", "Mean unread"];
+    header("Input", &[&counts[..], &SPEED].concat())
+}
+
+/// What the runs of an input came to.
+pub fn runs_row(name: &str, counts: &Counts, costs: &Costs) -> String {
     let numbers = [
         counts.records,
         counts.accepted,
         counts.refused(),
         counts.mean_unread(),
-        rate(counts.records, proved),
-        rate(counts.records, rust),
     ];
-    let cells = numbers.map(grouped).join(" | ");
-    let ratio = proved.as_secs_f64() / rust.as_secs_f64();
-    format!("| {name} | {cells} | {ratio:.2} |\n")
+    let speed = speed(counts.records, costs);
+    row(name, &[&numbers.map(grouped)[..], &speed].concat())
 }
 
-/// The header of the second table: the time of a call with so many unread.
+/// What stands under the columns of speed, for so many records.
+fn speed(records: u64, costs: &Costs) -> [String; 3] {
+    let (proved, rust) = (costs.proved.time, costs.rust.time);
+    let ratio = proved.as_secs_f64() / rust.as_secs_f64();
+    [
+        grouped(rate(records, proved)),
+        grouped(rate(records, rust)),
+        format!("{ratio:.2}"),
+    ]
+}
+
+/// The time of a call has a column for each of these numbers unread.
 pub fn calls_header<const COLUMNS: usize>(unread: [usize; COLUMNS]) -> String {
-    let columns = unread.map(|unread| format!(" {} unread, µs |", grouped(unread as u64)));
-    format!(
-        "\n| Call |{}\n|---|{}\n",
-        columns.concat(),
-        "---:|".repeat(COLUMNS)
-    )
+    let columns = unread.map(|unread| format!("{} unread, µs", grouped(unread as u64)));
+    header("Call", &columns)
 }
 
 /// The times of a call.
 pub fn calls_row<const COLUMNS: usize>(name: &str, times: [f64; COLUMNS]) -> String {
-    let cells = times.map(|time| format!(" {time:.3} |"));
-    format!("| {name} |{}\n", cells.concat())
+    row(name, &times.map(|time| format!("{time:.3}")))
 }
 
-/// The bytes in which the proved program keeps the state of a run, by its
-/// types.
-const PROVED_STATE: u64 = 2 * 6_914 + 4 * 2_048 + 8 * 552;
+pub fn memory_header() -> String {
+    header("Program", &["Peak memory, KiB", "State of a run, bytes"])
+}
 
-/// The third table: the most memory that each program comes to, and what the
-/// state takes of it.
-pub fn memory(most: &Costs, rust_state: usize) -> String {
-    let row = |cost: Cost, state| format!("{} | {}", grouped(cost.memory_kib), grouped(state));
-    let proved = row(most.proved, PROVED_STATE);
-    let rust = row(most.rust, rust_state as u64);
-    format!(
-        "
-| Program | Peak memory, KiB | State of a run, bytes |
-|---|---:|---:|
-| `replay`, proved | {proved} |
-| `engine-replay`, Rust | {rust} |
-"
-    )
+/// The most memory that a program comes to, and what the state takes of it.
+pub fn memory_row(program: &str, most: Cost, state: usize) -> String {
+    row(program, &[most.memory_kib, state as u64].map(grouped))
+}
+
+/// The columns' names; all but the first are columns of numbers.
+fn header(name: &str, columns: &[impl Borrow<str>]) -> String {
+    let numbers = "---:|".repeat(columns.len());
+    format!("{}|---|{numbers}\n", row(name, columns))
+}
+
+fn row(name: &str, cells: &[impl Borrow<str>]) -> String {
+    format!("| {name} | {} |\n", cells.join(" | "))
 }
 
 fn rate(records: u64, time: Duration) -> u64 {
