@@ -3,12 +3,15 @@
 
 #[path = "../shared/feigned_program.rs"]
 mod feigned_program;
+#[path = "../shared/made_up_program.rs"]
+mod made_up_program;
 #[path = "../shared/proved_program.rs"]
 mod proved_program;
 #[path = "../shared/timing_program.rs"]
 mod timing_program;
 
 use feigned_program::root_with;
+use made_up_program::MADE_UP;
 use proved_program::{program_at, USUAL_PLACE};
 use std::ffi::OsStr;
 use std::fs;
@@ -18,25 +21,36 @@ use std::process::{Command, Output};
 use timing_program::TIMING;
 
 const ENGINE: &str = env!("CARGO_BIN_EXE_engine-replay");
+const RUST_MADE_UP: &str = env!("CARGO_BIN_EXE_made-up");
+
+/// The programs to measure where a test asks for no other, by their options:
+/// Rust ones, also in the place of those that are proved.
+const PROGRAMS: [(&str, &str); 5] = [
+    ("--replay", ENGINE),
+    ("--engine-replay", ENGINE),
+    ("--made-up", RUST_MADE_UP),
+    ("--engine-made-up", RUST_MADE_UP),
+    ("--timing", ENGINE),
+];
 
 /// How many records are asked for.
 const RECORDS: f64 = 20_000.0;
 
-/// Runs the program with these to measure: the proved program, the second
-/// engine, and the one that makes the library's calls. Its temporary folder has
+/// Runs the program with these programs to measure, and the others of
+/// `PROGRAMS`: of two for one option the later counts. Its temporary folder has
 /// this name, and must be empty afterwards.
-fn bench(name: &str, replay: impl AsRef<OsStr>, engine: &str, timing: impl AsRef<OsStr>) -> Output {
+fn bench(name: &str, programs: &[(&str, impl AsRef<OsStr>)]) -> Output {
     let folder = format!("{}/{name}", env!("CARGO_TARGET_TMPDIR"));
     fs::create_dir_all(&folder).unwrap();
-    let output = Command::new(env!("CARGO_BIN_EXE_bench"))
-        .args(["--records", &RECORDS.to_string(), "--engine", engine])
-        .arg("--replay")
-        .arg(replay)
-        .arg("--timing")
-        .arg(timing)
-        .env("TMPDIR", &folder)
-        .output()
-        .unwrap();
+    let mut command = Command::new(env!("CARGO_BIN_EXE_bench"));
+    command.args(["--records", &RECORDS.to_string()]);
+    for (option, program) in PROGRAMS {
+        command.args([option, program]);
+    }
+    for (option, program) in programs {
+        command.arg(option).arg(program);
+    }
+    let output = command.env("TMPDIR", &folder).output().unwrap();
     assert_eq!(fs::read_dir(&folder).unwrap().count(), 0, "in {folder}");
     output
 }
@@ -56,7 +70,7 @@ fn numbers(row: &str) -> Vec<f64> {
 }
 
 /// The row of an input has so many refused records and so many unread on the
-/// average, and two rates with their ratio.
+/// average, and then the speed of both programs.
 fn check_row(row: &str, refused: f64, mean_unread: RangeInclusive<f64>) {
     let numbers = numbers(row);
     assert_eq!(numbers.len(), 7, "{row}");
@@ -67,7 +81,24 @@ fn check_row(row: &str, refused: f64, mean_unread: RangeInclusive<f64>) {
     assert_eq!(numbers[1] + numbers[2], numbers[0], "{row}");
     assert_eq!(numbers[2], refused, "{row}");
     assert!(mean_unread.contains(&numbers[3]), "{row}");
-    assert!(numbers[4..].iter().all(|&number| number > 0.0), "{row}");
+    check_speed(&numbers[4..], row);
+}
+
+/// The row of the made-up pass has ten times as many records as are asked for,
+/// and the speed of both programs.
+fn check_made_up(row: &str) {
+    assert!(row.starts_with("| seed 1 | "), "{row}");
+    let numbers = numbers(row);
+    assert_eq!(numbers.len(), 4, "{row}");
+    assert_eq!(numbers[0], 10.0 * RECORDS, "{row}");
+    check_speed(&numbers[1..], row);
+}
+
+/// The rates of both programs, and their ratio in two digits behind the point.
+fn check_speed(speed: &[f64], row: &str) {
+    let [proved, rust, ratio] = speed.try_into().unwrap();
+    assert!(proved > 0.0 && rust > 0.0, "{row}");
+    assert!((rust / proved - ratio).abs() < 0.006, "{row}");
 }
 
 /// The row of a call has a time for each column, and all stand within what a
@@ -82,45 +113,68 @@ fn check_call(row: &str, name: &str) {
     );
 }
 
+/// The row of a program has its peak and its state, neither of them nothing.
+fn check_memory(row: &str, name: &str) {
+    assert!(row.starts_with(&format!("| {name} | ")), "{row}");
+    let numbers = numbers(row);
+    assert_eq!(numbers.len(), 2, "{row}");
+    assert!(numbers.iter().all(|&number| number > 0.0), "{row}");
+}
+
 #[test]
 fn a_small_run_prints_a_row_for_each_input_and_each_call() {
-    let (Some(replay), Some(timing)) = (program_at(USUAL_PLACE), program_at(TIMING)) else {
+    let [Some(replay), Some(made_up), Some(timing)] =
+        [USUAL_PLACE, MADE_UP, TIMING].map(program_at)
+    else {
         return;
     };
-    let output = bench("bench-small", replay, ENGINE, timing);
+    // It writes no other pass than that of the row.
+    let of_row = format!("[ \"$*\" = '1 200000' ] && exec {RUST_MADE_UP} $*");
+    let programs = [
+        ("--replay", replay),
+        ("--made-up", made_up),
+        ("--engine-made-up", feigned("pass-of-row", &of_row)),
+        ("--timing", timing),
+    ];
+    let output = bench("bench-small", &programs);
     let said = String::from_utf8_lossy(&output.stderr);
     assert!(output.status.success() && said.is_empty(), "{said}");
     let printed = String::from_utf8(output.stdout).unwrap();
     let lines: Vec<&str> = printed.lines().collect();
-    assert_eq!(lines.len(), 18, "{printed}");
+    assert_eq!(lines.len(), 24, "{printed}");
     check_row(lines[2], 0.0, 5.0..=20.0);
     check_row(lines[3], 0.0, 250.0..=550.0);
     check_row(lines[4], 0.0, 850.0..=1_024.0);
     check_row(lines[5], RECORDS, 250.0..=550.0);
-    check_call(lines[9], "`step`, by value");
-    check_call(lines[10], "`step_lent`");
-    check_call(lines[11], "`step_in_place`");
-    check_call(lines[12], "`is_sound`");
-    assert!(lines[16].starts_with("| `replay`, proved | "));
-    assert!(lines[17].starts_with("| `engine-replay`, Rust | "));
-    for row in &lines[16..] {
-        assert!(numbers(row).iter().all(|&number| number > 0.0), "{row}");
-    }
+    check_made_up(lines[9]);
+    check_call(lines[13], "`step`, by value");
+    check_call(lines[14], "`step_lent`");
+    check_call(lines[15], "`step_in_place`");
+    check_call(lines[16], "`is_sound`");
+    check_memory(lines[20], "`replay`, proved");
+    check_memory(lines[21], "`engine-replay`, Rust");
+    check_memory(lines[22], "`made_up`, proved");
+    check_memory(lines[23], "`made-up`, Rust");
 }
 
-/// The run ended with 1, printed nothing and told that the outputs differ.
-fn assert_differ(output: Output) {
+/// With this program by this option, the outputs for this input differ, which
+/// is told and nothing printed.
+fn assert_differ(name: &str, option: &str, program: impl AsRef<OsStr>, input: &str) {
+    let output = bench(name, &[(option, program)]);
     assert_eq!(output.status.code(), Some(1));
     assert_eq!(output.stdout, b"");
     let said = String::from_utf8(output.stderr).unwrap();
-    let problem = "the outputs of the two programs differ\n";
-    assert!(said.ends_with(problem), "{said}");
+    let told = format!("bench: {input}: the outputs of the two programs differ\n");
+    assert_eq!(said, told);
 }
+
+/// The first input of the runs.
+const FIRST_INPUT: &str = "a pass with moves, few unread";
 
 #[test]
 fn programs_that_differ_are_told() {
-    for (replay, engine) in [(ENGINE, "cat"), ("/bin/cat", ENGINE)] {
-        assert_differ(bench("bench-differ", replay, engine, ENGINE));
+    for option in ["--replay", "--engine-replay"] {
+        assert_differ("bench-differ", option, "/bin/cat", FIRST_INPUT);
     }
 }
 
@@ -130,16 +184,27 @@ fn programs_that_differ_are_told() {
 fn programs_that_differ_late_are_told() {
     for change in ["head -c -1", "sed '$a more'", "sed '$s/end/and/'"] {
         let changed = feigned("changed-run", &format!("{ENGINE} | {change}"));
-        let changed = changed.to_str().unwrap();
-        assert_differ(bench("bench-late", changed, ENGINE, ENGINE));
-        assert_differ(bench("bench-late", ENGINE, changed, ENGINE));
+        for option in ["--replay", "--engine-replay"] {
+            assert_differ("bench-late", option, &changed, FIRST_INPUT);
+        }
+    }
+}
+
+/// The pass of another seed, and one that ends a record early or late.
+#[test]
+fn made_up_passes_that_differ_are_told() {
+    for arguments in ["$(($1 + 1)) $2", "$1 $(($2 - 1))", "$1 $(($2 + 1))"] {
+        let changed = feigned("changed-pass", &format!("exec {RUST_MADE_UP} {arguments}"));
+        for option in ["--made-up", "--engine-made-up"] {
+            assert_differ("bench-made", option, &changed, "a made-up pass");
+        }
     }
 }
 
 /// A program that prints something else did not make the calls.
 #[test]
 fn calls_that_are_not_made_are_told() {
-    let output = bench("bench-calls", ENGINE, ENGINE, "/bin/cat");
+    let output = bench("bench-calls", &[("--timing", "/bin/cat")]);
     assert_eq!(output.status.code(), Some(1));
     assert_eq!(output.stdout, b"");
     let said = String::from_utf8(output.stderr).unwrap();
@@ -148,19 +213,31 @@ fn calls_that_are_not_made_are_told() {
 
 #[test]
 fn a_program_that_fails_is_told() {
-    let output = bench("bench-fails", ENGINE, "false", ENGINE);
-    assert_eq!(output.status.code(), Some(1));
-    let said = String::from_utf8(output.stderr).unwrap();
-    assert!(said.contains("false ended with exit status: 1"), "{said}");
+    for (option, input) in [
+        ("--engine-replay", FIRST_INPUT),
+        ("--engine-made-up", "a made-up pass"),
+    ] {
+        let output = bench("bench-fails", &[(option, "false")]);
+        assert_eq!(output.status.code(), Some(1));
+        let said = String::from_utf8(output.stderr).unwrap();
+        let told = format!("bench: {input}: false ended with exit status: 1\n");
+        assert_eq!(said, told);
+    }
 }
 
 #[test]
 fn a_program_that_is_not_there_is_told() {
-    let output = bench("bench-none", ENGINE, ENGINE, "none");
-    assert_eq!(output.status.code(), Some(1));
-    let said = String::from_utf8(output.stderr).unwrap();
-    let told = "bench: there is no program at none; 'rt check timing' builds it\n";
-    assert_eq!(said, told);
+    for (option, name) in [
+        ("--replay", "replay"),
+        ("--made-up", "made_up"),
+        ("--timing", "timing"),
+    ] {
+        let output = bench("bench-none", &[(option, "none")]);
+        assert_eq!(output.status.code(), Some(1));
+        let said = String::from_utf8(output.stderr).unwrap();
+        let told = format!("bench: there is no program at none; 'rt check {name}' builds it\n");
+        assert_eq!(said, told);
+    }
 }
 
 #[test]

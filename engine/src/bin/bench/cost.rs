@@ -1,5 +1,5 @@
-//! What a run of a program on a log costs: its time on a processor, and the
-//! most memory that it has resident, both as the system tells them.
+//! What a run of a program costs: its time on a processor, and the most memory
+//! that it has resident, both as the system tells them.
 
 use std::fs::{self, File};
 use std::io;
@@ -33,13 +33,18 @@ impl Cost {
         }
     }
 
-    /// Runs a program on a log, with its output in a file. Where the system
+    /// Runs a program on an input, with its output in a file. Where the system
     /// tells no time on a processor, the time is that on the clock.
-    pub fn of_run(program: &Path, log: &Path, output: &Path) -> Result<Cost, String> {
+    pub fn of_run(
+        program: &Path,
+        arguments: &[String],
+        input: &Path,
+        output: &Path,
+    ) -> Result<Cost, String> {
         let failed = |error: io::Error| format!("cannot run {}: {error}", program.display());
-        let (log, output) = (File::open(log), File::create(output));
+        let (input, output) = (File::open(input), File::create(output));
         let mut command = Command::new(program);
-        command.stdin(log.map_err(failed)?);
+        command.args(arguments).stdin(input.map_err(failed)?);
         command.stdout(output.map_err(failed)?);
         let begun = Instant::now();
         let mut child = command.spawn().map_err(failed)?;

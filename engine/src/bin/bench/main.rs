@@ -1,11 +1,14 @@
-//! Measures the proved program against `engine-replay` on the same logs, and
-//! the calls of the library, and prints three tables in markdown: records per
-//! second of processor time on each input, the time of each call, and the
-//! memory that each program takes. It fails where the outputs differ.
+//! Measures proved programs against Rust ones, `replay` against `engine-replay`
+//! on the same logs and `made_up` against `made-up` on the same made-up pass,
+//! and the calls of the library. It prints four tables in markdown: records per
+//! second of processor time on each input, those of the pass, the time of each
+//! call, and the memory that each program takes. It fails where the outputs
+//! differ.
 
 mod calls;
 mod cost;
 mod input;
+mod made_up;
 mod measure;
 mod options;
 mod pass;
@@ -38,7 +41,8 @@ fn measured() -> Result<String, String> {
     let programs = options.programs()?;
     let folder = Folder::make()?;
     let runs = runs::side_by_side(&folder, &programs.replay, options.records)?;
+    let pass = made_up::side_by_side(&folder, &programs.made_up, options.records)?;
     let calls = calls::times(&folder, &programs.timing, options.records)?;
-    let memory = table::memory_header() + &runs.memory;
-    Ok([runs.speed, calls, memory].join("\n"))
+    let memory = table::memory_header() + &runs.memory + &pass.memory;
+    Ok([runs.speed, pass.speed, calls, memory].join("\n"))
 }

@@ -1,5 +1,5 @@
-//! Both programs on the same log, in turns: whether their outputs are equal,
-//! and what each costs; and any program on an input.
+//! Two programs with the same arguments and input, in turns: whether their
+//! outputs are equal, and what each costs; and any program on an input.
 
 use crate::cost::Cost;
 use std::fs::{self, File};
@@ -50,17 +50,21 @@ impl Folder {
         Ok(Folder(path))
     }
 
-    /// Runs both programs in turns on a log. Their outputs must be equal each
-    /// time.
-    pub fn measure(&self, programs: &Counterparts, log: &[u8]) -> Result<Costs, String> {
-        let place = self.0.join("log");
+    /// Runs both programs in turns with these arguments on an input. Their
+    /// outputs must be equal each time.
+    pub fn measure(
+        &self,
+        programs: &Counterparts,
+        arguments: &[String],
+        input: &[u8],
+    ) -> Result<Costs, String> {
+        let place = self.put(input)?;
         let outputs = ["proved", "rust"].map(|name| self.0.join(name));
-        fs::write(&place, log).map_err(unusable)?;
         let mut costs = Costs::OF_NONE;
         for _ in 0..ROUNDS {
             costs = costs.and(Costs {
-                proved: Cost::of_run(&programs.proved, &place, &outputs[0])?,
-                rust: Cost::of_run(&programs.rust, &place, &outputs[1])?,
+                proved: Cost::of_run(&programs.proved, arguments, &place, &outputs[0])?,
+                rust: Cost::of_run(&programs.rust, arguments, &place, &outputs[1])?,
             });
             if !have_same_bytes(&outputs).map_err(unusable)? {
                 return Err("the outputs of the two programs differ".to_owned());
@@ -71,10 +75,17 @@ impl Folder {
 
     /// Runs a program on an input, and gives what it prints.
     pub fn run(&self, program: &Path, input: &[u8]) -> Result<(Cost, Vec<u8>), String> {
-        let [place, output] = ["input", "output"].map(|name| self.0.join(name));
-        fs::write(&place, input).map_err(unusable)?;
-        let cost = Cost::of_run(program, &place, &output)?;
+        let place = self.put(input)?;
+        let output = self.0.join("output");
+        let cost = Cost::of_run(program, &[], &place, &output)?;
         Ok((cost, fs::read(&output).map_err(unusable)?))
+    }
+
+    /// Where an input is after it was put there.
+    fn put(&self, input: &[u8]) -> Result<PathBuf, String> {
+        let place = self.0.join("input");
+        fs::write(&place, input).map_err(unusable)?;
+        Ok(place)
     }
 }
 

@@ -6,24 +6,27 @@ use std::ffi::OsString;
 use std::path::PathBuf;
 use std::process::Command;
 
-const USAGE: &str = "usage: bench [--records COUNT] [--replay PROGRAM] [--engine PROGRAM] \
-    [--timing PROGRAM]";
+const USAGE: &str = "usage: bench [--records COUNT] [--replay PROGRAM] [--engine-replay PROGRAM] \
+    [--made-up PROGRAM] [--engine-made-up PROGRAM] [--timing PROGRAM]";
 
 const FOLDER: &str = env!("CARGO_MANIFEST_DIR");
 
 /// Where nothing else is asked for, 2,000,000 records, the proved programs at
-/// their usual place, and `engine-replay` built anew in release.
+/// their usual place, and the Rust ones built anew in release.
 pub struct Options {
     pub records: usize,
     replay: Option<PathBuf>,
-    engine: Option<PathBuf>,
+    engine_replay: Option<PathBuf>,
+    made_up: Option<PathBuf>,
+    engine_made_up: Option<PathBuf>,
     timing: Option<PathBuf>,
 }
 
-/// The programs to measure: those that print runs, and the one that makes the
-/// library's calls.
+/// The programs to measure: those that print runs, those that write made-up
+/// passes, and the one that makes the library's calls.
 pub struct Programs {
     pub replay: Counterparts,
+    pub made_up: Counterparts,
     pub timing: PathBuf,
 }
 
@@ -32,7 +35,9 @@ impl Options {
         let mut options = Options {
             records: 2_000_000,
             replay: None,
-            engine: None,
+            engine_replay: None,
+            made_up: None,
+            engine_made_up: None,
             timing: None,
         };
         let mut arguments = env::args_os().skip(1);
@@ -41,7 +46,9 @@ impl Options {
             match option.to_str() {
                 Some("--records") => options.records = read_count(value)?,
                 Some("--replay") => options.replay = Some(value.into()),
-                Some("--engine") => options.engine = Some(value.into()),
+                Some("--engine-replay") => options.engine_replay = Some(value.into()),
+                Some("--made-up") => options.made_up = Some(value.into()),
+                Some("--engine-made-up") => options.engine_made_up = Some(value.into()),
                 Some("--timing") => options.timing = Some(value.into()),
                 _ => return Err(USAGE.to_owned()),
             }
@@ -49,12 +56,22 @@ impl Options {
         Ok(options)
     }
 
+    /// Whether a proved program is missing is known before a Rust one is built.
     pub fn programs(&self) -> Result<Programs, String> {
-        let proved = proved_program(&self.replay, "replay")?;
+        let replay = proved_program(&self.replay, "replay")?;
+        let made_up = proved_program(&self.made_up, "made_up")?;
         let timing = proved_program(&self.timing, "timing")?;
-        let rust = self.engine.clone().map_or_else(build_engine, Ok)?;
-        let replay = Counterparts { proved, rust };
-        Ok(Programs { replay, timing })
+        Ok(Programs {
+            replay: Counterparts {
+                proved: replay,
+                rust: rust_program(&self.engine_replay, "engine-replay")?,
+            },
+            made_up: Counterparts {
+                proved: made_up,
+                rust: rust_program(&self.engine_made_up, "made-up")?,
+            },
+            timing,
+        })
     }
 }
 
@@ -76,17 +93,21 @@ fn read_count(value: OsString) -> Result<usize, String> {
     count.filter(|&count| count > 0).ok_or(USAGE.to_owned())
 }
 
-/// `cargo run` builds this program alone; the other stands beside it.
-fn build_engine() -> Result<PathBuf, String> {
+/// The program that is asked for, else the one of this name, built here:
+/// `cargo run` builds the benchmark alone, and the others stand beside it.
+fn rust_program(asked: &Option<PathBuf>, name: &str) -> Result<PathBuf, String> {
+    if let Some(program) = asked {
+        return Ok(program.clone());
+    }
     let built = Command::new(env::var_os("CARGO").unwrap_or("cargo".into()))
         .args(["build", "--release", "--offline", "--quiet"])
-        .args(["--bin", "engine-replay"])
+        .args(["--bin", name])
         .current_dir(FOLDER)
         .status()
         .map_err(|error| format!("cannot run cargo: {error}"))?;
     if !built.success() {
-        return Err("engine-replay cannot be built".to_owned());
+        return Err(format!("{name} cannot be built"));
     }
     let here = env::current_exe().map_err(|error| error.to_string())?;
-    Ok(here.with_file_name("engine-replay"))
+    Ok(here.with_file_name(name))
 }

@@ -19,7 +19,7 @@ pub fn side_by_side(
     let mut rust_state = 0;
     for input in inputs(records) {
         let costs = folder
-            .measure(programs, &input.log)
+            .measure(programs, &[], &input.log)
             .map_err(|problem| format!("{}: {problem}", input.name))?;
         let counts = Counts::of(&input.log);
         speed += &table::runs_row(input.name, &counts, &costs);

@@ -33,6 +33,19 @@ pub fn runs_row(name: &str, counts: &Counts, costs: &Costs) -> String {
     row(name, &[&numbers.map(grouped)[..], &speed].concat())
 }
 
+pub fn made_up_header() -> String {
+    header("Made-up pass", &[&["Records"][..], &SPEED].concat())
+}
+
+/// What the pass of a seed came to.
+pub fn made_up_row(seed: u32, records: u64, costs: &Costs) -> String {
+    let speed = speed(records, costs);
+    row(
+        &format!("seed {seed}"),
+        &[&[grouped(records)][..], &speed].concat(),
+    )
+}
+
 /// What stands under the columns of speed, for so many records.
 fn speed(records: u64, costs: &Costs) -> [String; 3] {
     let (proved, rust) = (costs.proved.time, costs.rust.time);
@@ -56,7 +69,7 @@ pub fn calls_row<const COLUMNS: usize>(name: &str, times: [f64; COLUMNS]) -> Str
 }
 
 pub fn memory_header() -> String {
-    header("Program", &["Peak memory, KiB", "State of a run, bytes"])
+    header("Program", &["Peak memory, KiB", "State, bytes"])
 }
 
 /// The most memory that a program comes to, and what the state takes of it.
