@@ -52,6 +52,14 @@ pub fn files() -> Vec<String> {
     paths
 }
 
+/// README.md, and every page below docs/, in order.
+pub fn pages() -> Vec<Source> {
+    let mut paths = vec!["README.md".to_owned()];
+    add_files("docs", &mut paths);
+    let pages = paths.iter().filter(|path| path.ends_with(".md"));
+    pages.map(|path| Source::read(path)).collect()
+}
+
 /// What a folder holds, in order.
 pub fn entries(folder: &str) -> Vec<String> {
     let entries = fs::read_dir(Path::new(ROOT).join(folder))
@@ -84,7 +92,7 @@ pub fn expect_none(findings: &[String]) {
 }
 
 mod tests {
-    use super::{expect_none, sources, Source};
+    use super::{expect_none, pages, sources, Source};
 
     #[test]
     fn files_are_found_by_their_endings() {
@@ -92,6 +100,19 @@ mod tests {
         let has = |path: &str| found.iter().any(|source| source.path == path);
         assert!(has("crates/steps/src/lib.rt") && has("crates/broker/specs/Step.antt"));
         assert!(!has("crates/panel/stdout"));
+    }
+
+    #[test]
+    fn pages_are_found_in_all_folders() {
+        let found: Vec<String> = pages().into_iter().map(|page| page.path).collect();
+        for path in [
+            "README.md",
+            "docs/FORMAT.md",
+            "docs/changes/01-made-up-pass.md",
+        ] {
+            assert!(found.iter().any(|page| page == path), "{path}");
+        }
+        assert!(found.iter().all(|path| path.ends_with(".md")));
     }
 
     #[test]
