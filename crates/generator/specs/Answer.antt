@@ -1,19 +1,13 @@
 -- What a maker of a log answers, and what it leaves in the buffer. Paper 02, change 1: "The answer is the bytes written; the buffer beyond
 -- them is untouched. Checks: 26 for seed zero, then 27 for a buffer shorter than 7 times n bytes; neither writes a byte." Assumes nothing.
 use mathlib.Core.Bool.{cond}
-use mathlib.Core.List.{List, _++_}
+use mathlib.Core.List.{List, [], _++_}
 use Prim.Native.Nat.{ℕ, _*_}
 use lib.Dec.{eqb, ltb}
 use lib.ListN.{length, drop}
 use Rattle.generator.specs.MadeUp.{longest, madeLog, logLeaves}
 use Rattle.generator.specs.declared.Made.{Made}
 use Rattle.generator.specs.declared.Made.the-variants.{Written, SeedZero, TooShort}
-
--- the paper's number of an answer, 0 where a log was written
-abbrev pub number : Made → ℕ
-number (Written bytes word) = 0
-number SeedZero = 26
-number TooShort = 27
 
 -- all that there is afterwards: the number, the bytes written, the word that they leave, and the buffer
 pub record Outcome : Type 0 where
@@ -22,14 +16,19 @@ pub record Outcome : Type 0 where
   pub word : ℕ
   pub buffer : List ℕ
 
-abbrev pub outcome : Made → List ℕ → Outcome
-outcome (Written bytes word) buffer = record { number = 0; bytes = bytes; word = word .0; buffer = buffer }
-outcome SeedZero buffer = record { number = 26; bytes = 0; word = 0; buffer = buffer }
-outcome TooShort buffer = record { number = 27; bytes = 0; word = 0; buffer = buffer }
-
 -- "neither writes a byte"
 abbrev pub refuses : ℕ → List ℕ → Outcome
 refuses number buffer = record { number = number; bytes = 0; word = 0; buffer = buffer }
+
+-- the paper's number and values of each answer, 0 where a log was written, beside the buffer
+abbrev pub outcome : Made → List ℕ → Outcome
+outcome (Written bytes word) buffer = record { number = 0; bytes = bytes; word = word .0; buffer = buffer }
+outcome SeedZero buffer = refuses 26 buffer
+outcome TooShort buffer = refuses 27 buffer
+
+-- the number alone
+abbrev pub number : Made → ℕ
+number made = outcome made [] .number
 
 -- "The answer is the bytes written; the buffer beyond them is untouched."
 abbrev pub writes : List ℕ → ℕ → List ℕ → Outcome

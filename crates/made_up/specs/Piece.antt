@@ -1,13 +1,12 @@
 -- A piece of the pass: what fits into the buffer. Assumes nothing.
 use mathlib.Core.Bool.{cond}
-use mathlib.Core.List.{List}
+use mathlib.Core.List.{List, []}
 use mathlib.Core.Path.{_≡_}
 use Prim.Native.Nat.{ℕ, _-_, _*_}
 use lib.Dec.{ltb}
-use Rattle.generator.specs.Answer.{Outcome, makes}
+use Rattle.generator.specs.Answer.{Outcome, outcome, makes}
 use Rattle.generator.specs.MadeUp.{longest}
 use Rattle.generator.specs.declared.Made.{Made}
-use Rattle.generator.specs.declared.Made.the-variants.{Written, SeedZero, TooShort}
 use Rattle.made_up.specs.declared.pass.Piece.{Piece}
 
 -- so many records at most
@@ -28,9 +27,9 @@ refusedPiece number left = record { number = number; bytes = 0; word = 0; left =
 
 -- the generator's answer as a piece, with so many records left
 abbrev pub pieceFrom : Made → ℕ → Piece
-pieceFrom (Written bytes word) left = record { number = 0; bytes = bytes; word = word .0; left = left }
-pieceFrom SeedZero left = refusedPiece 26 left
-pieceFrom TooShort left = refusedPiece 27 left
+pieceFrom made left =
+    let answer = outcome made [] in
+    record { number = answer .number; bytes = answer .bytes; word = answer .word; left = left }
 
 -- what a piece is, as an outcome of the generator
 abbrev pub outcomeOf : Piece → List ℕ → Outcome

@@ -11,11 +11,10 @@ use Rattle.made_up.specs.Piece.{pieceFrom, outcomeOf}
 use Rattle.made_up.proofs.pass.next_piece.Statement.{statement}
 use Rattle.made_up.proofs.pass.next_piece.Tie as tie
 
-same-outcome : (made : Made) (left : ℕ) (buffer : List ℕ) →
-    (outcomeOf (pieceFrom made left) buffer ≡ outcome made buffer) × (pieceFrom made left .left ≡ left)
-same-outcome (Written bytes word) left buffer = (refl, refl)
-same-outcome SeedZero left buffer = (refl, refl)
-same-outcome TooShort left buffer = (refl, refl)
+same-outcome : (made : Made) (left : ℕ) (buffer : List ℕ) → outcomeOf (pieceFrom made left) buffer ≡ outcome made buffer
+same-outcome (Written bytes word) left buffer = refl
+same-outcome SeedZero left buffer = refl
+same-outcome TooShort left buffer = refl
 
 sub-piece-from : tie.Need-sub-piece-from
 sub-piece-from c =
@@ -29,8 +28,8 @@ returns c =
     let left = counted .before .before .args .left in
     let same = same-outcome (made .result) (left - counted .piece-of .result) (made .last .1 .1 .0) in
     record {
-      made = rw (c .piece-from .ensures) (same .0 ∙ rw (counted .piece-of .ensures) at (made .ensures));
-      rest = rw (c .piece-from .ensures) (same .1 ∙ rw (counted .piece-of .ensures));
+      made = rw (c .piece-from .ensures) (same ∙ rw (counted .piece-of .ensures) at (made .ensures));
+      rest = rw (c .piece-from .ensures, counted .piece-of .ensures);
     }
 
 pub next-piece-spec : {M : Type 1} → statement M
