@@ -8,8 +8,17 @@ ghost use Rattle.broker.specs.Record.{bytesOf};
 ghost use Rattle.generator.specs.Body.{fieldsIn, hasSecond, secondBelow, hasValue};
 ghost use Rattle.generator.specs.MadeUp.{kinds, longest, body, bodyLeaves, madeRecord, recordLeaves};
 use crate::draw::draw;
+use broker::state::Broker;
 use page::put_byte;
 use page::put_four_bytes;
+
+// "1 plus the draw modulo 12": the kinds 01 to 0C.
+const KINDS: u32 = 12;
+
+// "modulo 16 for a rank and 8 for a host"
+const RANKS: u32 = Broker::RANKS as u32;
+
+const HOSTS: u32 = Broker::HOSTS as u32;
 
 // How far a log has come: the bytes that are used of the buffer, and the word that the generator stands at.
 pub struct Standing {
@@ -77,10 +86,10 @@ fn second_below(fields: Body) -> u32
     ensures { λ r. ⌜ r ≡ secondBelow fields ⌝ }
 {
     match fields {
-        Body::Rank => 16,
-        Body::RankAndHost => 8,
-        Body::Ranks => 16,
-        Body::RanksAndValue => 16,
+        Body::Rank => RANKS,
+        Body::RankAndHost => HOSTS,
+        Body::Ranks => RANKS,
+        Body::RanksAndValue => RANKS,
     }
 }
 
@@ -102,7 +111,7 @@ fn put_body(buffer: &mut [u8], used: usize, fields: Body, word: u32) -> Standing
     ensures left { λ r. ⌜ r .word ≡ bodyLeaves (fieldsIn fields) word ⌝ }
 {
     let first = draw(word);
-    let one = put_byte(buffer, used, (first % 16) as u8);
+    let one = put_byte(buffer, used, (first % RANKS) as u8);
     if !has_second(fields) {
         return Standing {
             used: one,
@@ -131,7 +140,7 @@ pub fn put_record(buffer: &mut [u8], used: usize, word: u32) -> Standing
     ensures left { λ r. ⌜ r .word ≡ recordLeaves word ⌝ }
 {
     let first = draw(word);
-    let number = first % 12;
+    let number = first % KINDS;
     let at = put_byte(buffer, used, (1 + number) as u8);
     put_body(buffer, at, body_of(number), first)
 }

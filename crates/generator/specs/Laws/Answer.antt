@@ -3,13 +3,11 @@ use mathlib.Core.Path.{_≡_, refl, sym, _∙_}
 use mathlib.Core.List.{List, _++_}
 use mathlib.Core.Logic.{_≢_}
 use Prim.Native.Nat.{ℕ, _+_, _*_, _≤_, _<_}
-use native.Mathlib.Nat.{zero-add}
 use native.Mathlib.Omega.{arith}
 use borrow.Author.Tests.{ne-eqb, lt-ltb, le-ltb}
 use lib.ListN.{length, take, drop}
-use lib.Seq.{sets-eq, take-append-seam}
+use lib.Seq.{take-append-seam}
 use Rattle.base.specs.Laws.Tests.{by-equal, by-less}
-use Rattle.page.specs.Put.{Put}
 use Rattle.generator.specs.Answer.{Outcome, refuses, writes, makes}
 use Rattle.generator.specs.Laws.MadeUp.{log-goes-on}
 use Rattle.generator.specs.MadeUp.{longest, madeLog, logLeaves}
@@ -20,13 +18,6 @@ module _ (word n : ℕ) (buffer : List ℕ) (some : word ≢ 0) where
 
   pub is-written : longest * n ≤ length buffer → makes word n buffer ≡ writes (madeLog n word) (logLeaves n word) buffer
   is-written h = rw (ne-eqb word 0 some, le-ltb (length buffer) (longest * n) h)
-
--- What is put at the front of a page is a text and then the page from there on.
-pub at-front : {most : ℕ} {page text after : List ℕ} {end : ℕ} → Put most page 0 text after end → most ≤ length page
-    → (end ≡ length text) × (after ≡ text ++ drop (length text) page)
-at-front {page = page} {text = text} p room =
-    let long : length text ≤ length page = omega arith in
-    (p .ends ∙ zero-add (length text), p .holds ∙ sets-eq text page 0 (omega arith) ∙ rw zero-add)
 
 -- the bytes that were written
 abbrev pub written : Outcome → List ℕ

@@ -2,6 +2,7 @@
 use mathlib.Core.Path.{_≡_, refl, sym, _∙_}
 use mathlib.Core.List.{List, [], _∷_, _++_}
 use Prim.Native.Nat.{ℕ, suc, _+_, _≤_}
+use native.Mathlib.Nat.{zero-add}
 use native.Mathlib.Omega.{arith}
 use lib.ListN.{length, take, drop, set, length-append}
 use lib.Seq.{sets, sets-eq, set-comm, take-at, length-take-le}
@@ -60,3 +61,10 @@ module _ {page : List ℕ} {used : ℕ} where
         let long = used + length text in
         let front : length (take used page ++ text) ≡ long = rw (length-append, length-take-le used page (omega arith)) in
         rw (p .holds, p .ends, sets-eq text page used (omega arith)) (take-at (take used page ++ text) (drop long page) long front)
+
+-- What is put at the front of a page is a text and then the page from there on.
+pub at-front : {most : ℕ} {page text after : List ℕ} {end : ℕ} → Put most page 0 text after end → most ≤ length page
+    → (end ≡ length text) × (after ≡ text ++ drop (length text) page)
+at-front {page = page} {text = text} p room =
+    let long : length text ≤ length page = omega arith in
+    (p .ends ∙ zero-add (length text), p .holds ∙ sets-eq text page 0 (omega arith) ∙ rw zero-add)
