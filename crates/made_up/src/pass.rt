@@ -69,7 +69,7 @@ fn next_piece(word: u32, left: u64, buffer: &mut [u8]) -> Piece
 }
 
 // Writes the log of so many records from a seed to standard output.
-pub fn write_pass(seed: u32, count: u64) {
+pub(crate) fn write_pass(seed: u32, count: u64) {
     let mut buffer = io::large_buffer();
     let mut word = seed;
     let mut left = count;

@@ -2,12 +2,12 @@
 use crate::argument::Fault;
 use libc::STDERR_FILENO;
 
-pub fn tell(words: &[u8]) {
+pub(crate) fn tell(words: &[u8]) {
     io::write_all(STDERR_FILENO, words);
 }
 
 // Says what is wrong with an argument, behind its name; `above` says what it is above where it is too large.
-pub fn tell_wrong(name: &[u8], wrong: Fault, above: &[u8]) {
+pub(crate) fn tell_wrong(name: &[u8], wrong: Fault, above: &[u8]) {
     tell(name);
     match wrong {
         Fault::NoNumber => tell(b"is no decimal number\n"),
@@ -17,7 +17,7 @@ pub fn tell_wrong(name: &[u8], wrong: Fault, above: &[u8]) {
 }
 
 // Says which check refuses to make a log.
-pub fn tell_refused(number: u8) {
+pub(crate) fn tell_refused(number: u8) {
     tell(b"made_up: refused with ");
     io::print_decimal(STDERR_FILENO, number as u64);
     if number == 26 {
@@ -27,6 +27,6 @@ pub fn tell_refused(number: u8) {
     }
 }
 
-pub fn tell_unwritten() {
+pub(crate) fn tell_unwritten() {
     tell(b"made_up: standard output cannot be written\n");
 }
