@@ -4,6 +4,7 @@ use crate::argument::Argument;
 use crate::argument::argument_at;
 use crate::pass::write_pass;
 use crate::tell::tell;
+use crate::tell::tell_ending;
 use crate::tell::tell_wrong;
 
 mod argument;
@@ -31,7 +32,7 @@ fn main() {
     let second = argument_at(2, u64::MAX);
     match first {
         Argument::Number(seed) => match second {
-            Argument::Number(count) => write_pass(seed as u32, count),
+            Argument::Number(count) => tell_ending(write_pass(seed as u32, count)),
             Argument::Wrong(fault) => tell_wrong(
                 b"made_up: argument 2, COUNT, ",
                 fault,

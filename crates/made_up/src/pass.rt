@@ -2,9 +2,8 @@
 ghost use mathlib.Core.Path.{_≡_};
 ghost use Prim.Native.Nat.{_≤_};
 ghost use lib.ListN.{length};
+ghost use Rattle.made_up.specs.Ending.{Ends};
 ghost use Rattle.made_up.specs.Piece.{refusedPiece, pieceFrom, pieceRecords, pieceRoom, Pieced};
-use crate::tell::tell_refused;
-use crate::tell::tell_unwritten;
 use generator::Made;
 use generator::Word;
 use generator::go_on;
@@ -68,8 +67,20 @@ fn next_piece(word: u32, left: u64, buffer: &mut [u8]) -> Piece
     piece_from(made, left - n)
 }
 
+// How the writing of a pass ends.
+pub enum Ending {
+    // All of it is written.
+    Whole,
+    // The generator refused it, with the number of its check.
+    Refused(u8),
+    // Standard output takes no more.
+    Unwritten,
+}
+
 // Writes the log of so many records from a seed to standard output.
-pub(crate) fn write_pass(seed: u32, count: u64) {
+pub fn write_pass(seed: u32, count: u64) -> Ending
+    ensures { λ r. ⌜ Ends seed count r ⌝ }
+{
     let mut buffer = io::large_buffer();
     let mut word = seed;
     let mut left = count;
@@ -77,18 +88,16 @@ pub(crate) fn write_pass(seed: u32, count: u64) {
         let piece = next_piece(word, left, &mut buffer);
         let number = piece.number;
         if number != 0 {
-            tell_refused(number);
-            return;
+            return Ending::Refused(number);
         }
         let bytes = piece.bytes;
         if !io::write_all(STDOUT_FILENO, &buffer[..bytes]) {
-            tell_unwritten();
-            return;
+            return Ending::Unwritten;
         }
         word = piece.word;
         left = piece.left;
         if left == 0 {
-            return;
+            return Ending::Whole;
         }
     }
 }

@@ -1,5 +1,6 @@
 // What the program says on standard error. Paper 02, change 1, has the two numbers.
 use crate::argument::Fault;
+use crate::pass::Ending;
 use libc::STDERR_FILENO;
 
 pub(crate) fn tell(words: &[u8]) {
@@ -17,7 +18,7 @@ pub(crate) fn tell_wrong(name: &[u8], wrong: Fault, above: &[u8]) {
 }
 
 // Says which check refuses to make a log.
-pub(crate) fn tell_refused(number: u8) {
+fn tell_refused(number: u8) {
     tell(b"made_up: refused with ");
     io::print_decimal(STDERR_FILENO, number as u64);
     if number == 26 {
@@ -27,6 +28,11 @@ pub(crate) fn tell_refused(number: u8) {
     }
 }
 
-pub(crate) fn tell_unwritten() {
-    tell(b"made_up: standard output cannot be written\n");
+// Says how the writing of a pass ended, where it did not end well.
+pub(crate) fn tell_ending(ending: Ending) {
+    match ending {
+        Ending::Whole => {}
+        Ending::Refused(number) => tell_refused(number),
+        Ending::Unwritten => tell(b"made_up: standard output cannot be written\n"),
+    }
 }

@@ -1,5 +1,5 @@
--- `made_up::pass::write_pass` is safe and ends. The loop's invariant: the program stands so in the course of the pass, whose laws say what
--- was written, and the buffer is as long as it was. Assumes nothing.
+-- `made_up::pass::write_pass` meets its contract. The loop's invariant: the program stands so in the course of the pass, whose laws say
+-- what was written, and the buffer is as long as it was. Assumes nothing.
 use mathlib.Core.List.{[], _++_}
 use mathlib.Core.Path.{_≡_, sym}
 use native.Mathlib.Omega.{arith}
@@ -8,6 +8,7 @@ use lib.ListN.{length, take}
 use lib.Seq.{length-take-le}
 use Rattle.made_up.specs.Course.Course.{begun, further}
 use Rattle.made_up.specs.Course.{Stands}
+use Rattle.made_up.specs.Laws.Ending.{refused-word, seed-good, seed-zero}
 use Rattle.made_up.specs.Laws.Piece.{piece-fits, piece-less}
 use Rattle.made_up.proofs.pass.write_pass.Statement.{statement}
 use Rattle.made_up.proofs.pass.write_pass.Tie as tie
@@ -20,6 +21,22 @@ abbrev μ-loop : tie.MeasureT-loop
 
 loop-holds : tie.Need-loop-holds Inv-loop μ-loop
 loop-holds c = (record { written = []; course = begun }, sym (c .large-buffer .ensures))
+
+returns : tie.Need-returns Inv-loop μ-loop
+returns c =
+    let next = c .before .before in
+    let loop = next .before .before in
+    let refused = refused-word (next .next-piece .ensures) (omega arith) (c .if1 .taken) in
+    (refused .0, seed-zero (omega arith) (loop .loop .inv .0 .course) (refused .1))
+
+returns-3 : tie.Need-returns-3 Inv-loop μ-loop
+returns-3 c =
+    let made = c .before .before .before .before in
+    let next = made .before .before in
+    let piece = next .next-piece .ensures in
+    let stands = next .before .before .loop .inv .0 in
+    let course = further piece (made .if1 .left) (stands .course) in
+    record { good = seed-good (stands .course) piece (made .if1 .left); word = _; written = _; course = rw (c .if3 .taken) at course }
 
 array-share-prefix-buffer : tie.Need-array-share-prefix-buffer Inv-loop μ-loop
 array-share-prefix-buffer c =
@@ -51,6 +68,5 @@ loop-again c =
 
 pub write-pass-spec : {M : Type 1} → statement M
 write-pass-spec =
-    tie.close (tie.spec Inv-loop μ-loop (λ c κs. search needs) loop-holds (λ c. search needs) (λ c κs. search needs) (λ c κs. search needs)
-    (λ c. search needs) array-share-prefix-buffer slice-aggregate-write-all (λ c κs. search needs) (λ c κs. search needs)
-    (λ c. search needs) (λ c. search needs) loop-less loop-again)
+    tie.close (tie.spec Inv-loop μ-loop (λ c κs. search needs) loop-holds (λ c. search needs) (λ c κs. search needs) returns
+    array-share-prefix-buffer slice-aggregate-write-all (λ c κs. search needs) (λ c. search needs) returns-3 loop-less loop-again)
