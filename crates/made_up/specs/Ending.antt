@@ -14,8 +14,8 @@ pub record Handed (seed count : ℕ) : Type 0 where
   pub written : List ℕ
   pub course : Course seed count word 0 written
 
--- all is handed over; or "26 for seed zero", and no other refusal; or the output failed
+-- all is handed over; or "26 for seed zero", and no other refusal; or the output failed, of a pass that is not refused
 abbrev pub Ends : ℕ → ℕ → Ending → Type 0
 Ends seed count Whole = Handed seed count
 Ends seed count (Refused number) = (number ≡ 26) × (seed ≡ 0)
-Ends seed count Unwritten = Unit {0}
+Ends seed count Unwritten = seed ≢ 0

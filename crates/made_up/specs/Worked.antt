@@ -1,2 +1,3 @@
 -- Worked examples of the definitions.
 pub mod Argument
+pub mod Ending

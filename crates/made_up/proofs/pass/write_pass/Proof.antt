@@ -29,6 +29,12 @@ returns c =
     let refused = refused-word (next .next-piece .ensures) (omega arith) (c .if1 .taken) in
     (refused .0, seed-zero (omega arith) (loop .loop .inv .0 .course) (refused .1))
 
+returns-2 : tie.Need-returns-2 Inv-loop μ-loop
+returns-2 c =
+    let made = c .before .before .before in
+    let next = made .before .before in
+    seed-good (next .before .before .loop .inv .0 .course) (next .next-piece .ensures) (made .if1 .left)
+
 returns-3 : tie.Need-returns-3 Inv-loop μ-loop
 returns-3 c =
     let made = c .before .before .before .before in
@@ -69,4 +75,4 @@ loop-again c =
 pub write-pass-spec : {M : Type 1} → statement M
 write-pass-spec =
     tie.close (tie.spec Inv-loop μ-loop (λ c κs. search needs) loop-holds (λ c. search needs) (λ c κs. search needs) returns
-    array-share-prefix-buffer slice-aggregate-write-all (λ c κs. search needs) (λ c. search needs) returns-3 loop-less loop-again)
+    array-share-prefix-buffer slice-aggregate-write-all (λ c κs. search needs) returns-2 returns-3 loop-less loop-again)
