@@ -1,6 +1,7 @@
--- Paper 01's number and values of an answer. Paper 01, "Where each step is checked".
+-- Paper 01's number and values of an answer. Paper 01, "Where each step is checked"; paper 02, change 2.
 -- Assumes nothing.
 use mathlib.Core.List.{List, [], _∷_}
+use mathlib.Core.Path.{_≡_}
 use Prim.Native.Nat.{ℕ}
 use Rattle.broker.specs.declared.answer.Answer.{Answer}
 use Rattle.broker.specs.declared.answer.Answer.the-variants.{Accepted, Refused}
@@ -24,7 +25,6 @@ use Rattle.broker.specs.declared.answer.Refusal.the-variants.{
   NotConnected,
   PeerMigrating,
   NoNotice,
-  SameHost,
   BacklogLeft,
   NoBacklog,
   NothingToDrain,
@@ -53,7 +53,6 @@ refusalNumber NoRequest = 14
 refusalNumber NotConnected = 15
 refusalNumber PeerMigrating = 16
 refusalNumber NoNotice = 17
-refusalNumber SameHost = 18
 refusalNumber BacklogLeft = 19
 refusalNumber NoBacklog = 20
 refusalNumber NothingToDrain = 21
@@ -66,6 +65,10 @@ refusalNumber NumbersSpent = 25
 abbrev pub number : Answer → ℕ
 number (Accepted v1 v2 v3) = 0
 number (Refused n) = refusalNumber n
+
+-- Paper 02, change 2: "Number 18 is given no more, and the contract says that no input meets it."
+unfoldable pub NeverEighteen : Answer → Type 0
+NeverEighteen answer = number answer ≡ 18 → ⊥
 
 -- v1, v2 and v3: "A refusal leaves .. v1 to v3 zero."
 abbrev pub values : Answer → List ℕ

@@ -1,5 +1,5 @@
--- The table of checks, a predicate for each row from 4 to 25 as the table words it, and the first row that applies.
--- Paper 01, "Where each step is checked". Assumes nothing.
+-- The table of checks, a predicate for each row from 4 to 17 and from 19 to 25 as the table words it, and the first row that applies.
+-- Paper 01, "Where each step is checked"; paper 02, change 2: "Number 18 is given no more". Assumes nothing.
 use mathlib.Core.Bool.{Bool, not, cond, _&&_, _||_}
 use mathlib.Core.List.{List, [], _∷_}
 use mathlib.Core.Option.{Option, none, some}
@@ -16,7 +16,6 @@ use Rattle.broker.specs.Names.{
   isStarted,
   isMigrating,
   isEnded,
-  endpoint,
   isOpenRequest,
   asksFor,
   isClosed,
@@ -43,7 +42,6 @@ use Rattle.broker.specs.declared.answer.Refusal.the-variants.{
   NotConnected,
   PeerMigrating,
   NoNotice,
-  SameHost,
   BacklogLeft,
   NoBacklog,
   NothingToDrain,
@@ -126,10 +124,6 @@ unfoldable pub noNotice : State → Record → Bool
 noNotice s r =
     is (Kind.heed ∷ []) r && anyOf (λ b. not (isClosing (connection s (firstRank r) b))) (secondRank r)
 
--- 18: "move: h is r's host"
-unfoldable pub sameHost : State → Record → Bool
-sameHost s r = is (Kind.move ∷ []) r && anyOf (λ h. eqb h (endpoint (status s (firstRank r)) .0)) (namedHost r)
-
 -- 19: "land: an await is not none"
 unfoldable pub backlogLeft : State → Record → Bool
 backlogLeft s r = is (Kind.land ∷ []) r && not (everyRank (λ p. isClear (backlog s (firstRank r) p)))
@@ -172,7 +166,7 @@ pub record Check : Type 0 where
   pub refusal : Refusal
   pub given : State → Record → Bool
 
--- the rows from 4 to 25, in the order in which they decide: "The lowest number that applies is given"
+-- the rows in the order in which they decide: "The lowest number that applies is given"
 unfoldable pub checks : List Check
 checks =
     record { refusal = RankRange; given = rankRange } ∷
@@ -189,7 +183,6 @@ checks =
     record { refusal = NotConnected; given = notConnected } ∷
     record { refusal = PeerMigrating; given = peerMigrating } ∷
     record { refusal = NoNotice; given = noNotice } ∷
-    record { refusal = SameHost; given = sameHost } ∷
     record { refusal = BacklogLeft; given = backlogLeft } ∷
     record { refusal = NoBacklog; given = noBacklog } ∷
     record { refusal = NothingToDrain; given = nothingToDrain } ∷

@@ -2,7 +2,7 @@
 ghost use mathlib.Core.Path.{_≡_};
 ghost use Rattle.broker.specs.Answer.{refusalNumber, number, values, listed};
 
-// Why a step is refused: the rows of the table of checks, numbers 1 to 25 in this order.
+// Why a step is refused: the rows of the table of checks, numbers 1 to 17 and 19 to 25 in this order.
 pub enum Refusal {
     Unsound,
     UnknownKind,
@@ -21,7 +21,6 @@ pub enum Refusal {
     NotConnected,
     PeerMigrating,
     NoNotice,
-    SameHost,
     BacklogLeft,
     NoBacklog,
     NothingToDrain,
@@ -62,7 +61,6 @@ impl Refusal {
             Refusal::NotConnected => 15,
             Refusal::PeerMigrating => 16,
             Refusal::NoNotice => 17,
-            Refusal::SameHost => 18,
             Refusal::BacklogLeft => 19,
             Refusal::NoBacklog => 20,
             Refusal::NothingToDrain => 21,

@@ -3,11 +3,11 @@
 use mathlib.Core.Bool.{not}
 use mathlib.Core.List.{List, [], _∷_, _++_}
 use Prim.Native.Nat.{ℕ}
-use lib.Dec.{eqb, leb, ltb}
+use lib.Dec.{leb, ltb}
 use Rattle.transit.specs.declared.Rank.{Rank}
-use Rattle.broker.specs.Names.{hosts, numbers, isStarted, endpoint, isOpenRequest}
+use Rattle.broker.specs.Names.{hosts, numbers, isStarted, isOpenRequest}
 use Rattle.transit.specs.Message.{isRank}
-use Rattle.broker.specs.declared.answer.Refusal.the-variants.{RankRange, HostRange, NotStarted, RequestOpen, SameHost, NumbersSpent}
+use Rattle.broker.specs.declared.answer.Refusal.the-variants.{RankRange, HostRange, NotStarted, RequestOpen, NumbersSpent}
 use Rattle.broker.specs.declared.process.Request.{Request}
 use Rattle.broker.specs.declared.process.Status.{Status}
 use Rattle.checks.specs.Tests.{runningTests}
@@ -18,4 +18,4 @@ abbrev pub moveTests : Rank → ℕ → Status → Request → ℕ → List Test
 moveTests r h t q n =
     (test (not (isRank r)) RankRange ∷ test (not (ltb h hosts)) HostRange ∷ test (not (isStarted t)) NotStarted ∷ []) ++
     runningTests t ++
-    (test (isOpenRequest q) RequestOpen ∷ test (eqb h (endpoint t .0)) SameHost ∷ test (leb numbers n) NumbersSpent ∷ [])
+    (test (isOpenRequest q) RequestOpen ∷ test (leb numbers n) NumbersSpent ∷ [])

@@ -39,14 +39,12 @@ mod leaving;
 fn move_checked(r: Rank, host: u8, standing: Status, request: Request, drawn: u16) -> Verdict
     ensures { λ v. ⌜ verdictOf v ≡ judged passed (moveTests r host standing request drawn) ⌝ }
 {
-    let end = standing.endpoint();
     Verdict::passed()
         .unless(!is_rank(r), Refusal::RankRange)
         .unless(!is_host(host), Refusal::HostRange)
         .unless(!standing.is_started(), Refusal::NotStarted)
         .running(standing)
         .unless(request.is_open(), Refusal::RequestOpen)
-        .unless(host == end.0, Refusal::SameHost)
         .unless(Broker::NUMBERS <= drawn, Refusal::NumbersSpent)
 }
 
@@ -60,7 +58,7 @@ pub fn move_verdict(r: Rank, host: u8, roster: &Roster) -> Verdict
     move_checked(r, host, standing, request, drawn)
 }
 
-// `r` migrates to `host` with its next number, and the lines that it has are left.
+// `r` migrates to `host` with its next number, and the lines that it has are left. The host may be the one where it runs.
 pub fn move_to(r: Rank, host: u8, slots: &mut Slots, roster: &mut Roster) -> Values
     requires { ⌜ Whole (now roster) ⌝ }
     requires { ⌜ r .0 < ranks ⌝ }
@@ -68,9 +66,9 @@ pub fn move_to(r: Rank, host: u8, slots: &mut Slots, roster: &mut Roster) -> Val
     ensures { λ v. ⌜ ((contents : List ℕ) → Mail (now (slots .entry)) contents → DeskDoes (move r host) (now (slots .entry)) contents
         (now (roster .entry)) v (now (slots .exit)) contents (now (roster .exit))) ⌝ }
 {
-    let number = drawn_on(host, roster) + 1;
     let standing = standing_of(r, roster);
     let source = standing.endpoint();
+    let number = drawn_on(host, roster) + 1;
     set_drawn(host, number, roster);
     set_standing(r, Status::Migrating(source, Vmid(host, number)), roster);
     leave_behind(r, slots);

@@ -23,7 +23,6 @@ use Rattle.broker.specs.Names.{
   isRunning,
   isMigrating,
   isEnded,
-  endpoint,
   isOpenRequest,
   asksFor,
   isClosed,
@@ -48,7 +47,6 @@ use Rattle.broker.specs.declared.answer.Refusal.the-variants.{
   NotConnected,
   PeerMigrating,
   NoNotice,
-  SameHost,
   BacklogLeft,
   NoBacklog,
   NothingToDrain,
@@ -154,7 +152,6 @@ pub record MoveFits (s : State) (r : Rank) (h : ℕ) : Type 0 where
   pub host : h < 8
   pub running : isRunning (status s r) ≡ true
   pub idle : isOpenRequest (request s r) ≡ false
-  pub elsewhere : eqb h (endpoint (status s r) .0) ≡ false
   pub room : drawnOn s h < numbers
 
 pub record HeedFits (s : State) (b r : Rank) : Type 0 where
@@ -292,7 +289,6 @@ move-fits s r h accepted =
       host = ltb-true h 8 (one-only (ltb h hosts) (from-not _ (passed HostRange)));
       running = running-of (status s r) (one .started) (passed HasEnded) (passed IsMigrating);
       idle = passed RequestOpen;
-      elsewhere = or-none (eqb h (endpoint (status s r) .0)) (passed SameHost);
       room = leb-false numbers (drawnOn s h) (or-none (leb numbers (drawnOn s h)) (passed NumbersSpent));
     }
 

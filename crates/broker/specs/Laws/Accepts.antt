@@ -102,7 +102,6 @@ move-accepted s r h f =
       running-not-ended (status s r) (f .running),
       running-not-migrating (status s r) (f .running),
       f .idle,
-      f .elsewhere,
       lt-leb _ _ (f .room),
     )
 

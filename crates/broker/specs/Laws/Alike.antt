@@ -37,7 +37,7 @@ use Rattle.broker.specs.Laws.Accepts.{
   part-accepted,
   end-accepted,
 }
-use Rattle.broker.specs.Laws.Core.{Core, core, settled, letter, core-status, endpoint-settled}
+use Rattle.broker.specs.Laws.Core.{Core, core, settled, letter, core-status}
 use Rattle.broker.specs.Laws.Fit.{tested-pair, stands, pair-fits}
 use Rattle.broker.specs.Laws.Quiet.{Calm, AllQuiet, Moving, Calling, Joined, nobody}
 use Rattle.broker.specs.Laws.Sound.{facts}
@@ -164,7 +164,6 @@ module _ (s x : State) (same : core x ≡ core s) (c : AllQuiet x) where
         host = f .host;
         running = running-alike s x (same-standings same) c r hr (f .running);
         idle = rw (c .requests r hr);
-        elsewhere = rw (status-alike s x (same-standings same) c r hr, endpoint-settled (status s r)) (f .elsewhere);
         room = rw (drawn-alike s x same h) (f .room);
       })
 

@@ -22,7 +22,7 @@ use Rattle.broker.specs.declared.record.Record.{Record}
 unfoldable pub openedChecks : State → Record → Option Refusal
 unfolding Checks.refusal Checks.checks Checks.rankRange Checks.hostRange Checks.rankTwice Checks.notStarted
     Checks.alreadyStarted Checks.hasEnded Checks.firstMigrating Checks.notMigrating Checks.connected Checks.requestOpen
-    Checks.noRequest Checks.notConnected Checks.peerMigrating Checks.noNotice Checks.sameHost Checks.backlogLeft
+    Checks.noRequest Checks.notConnected Checks.peerMigrating Checks.noNotice Checks.backlogLeft
     Checks.noBacklog Checks.nothingToDrain Checks.nothingUnread Checks.unreadLeft Checks.full Checks.numbersSpent
 openedChecks s r = Checks.refusal s r
 

@@ -15,10 +15,10 @@ returns c = λ contents m.
     let behind = left .before .before in
     let moved = behind .before .before in
     let drawn = moved .before .before in
-    let source = drawn .before .before in
+    let number = drawn .before .before in
+    let source = number .before .before in
     let stood = source .before in
-    let number = stood .before .before in
-    let args = number .before .before .args in
+    let args = stood .before .before .args in
     let from = source .endpoint .ensures ∙ ap endpoint (stood .standing-of .ensures) in
     let stays = behind .leave-behind .ensures contents m in
     record {
