@@ -20,6 +20,7 @@ pub mod Opened
 pub mod Quiet
 pub mod Ranks
 pub mod Record
+pub mod Restart
 pub mod Sound
 pub mod Standings
 pub mod State

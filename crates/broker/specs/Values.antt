@@ -137,6 +137,24 @@ move =
       then = λ s. isMarked (backlog s (rank 1) (rank 0)) && isUnheeded (backlog s (rank 1) (rank 2));
     }
 
+-- Paper 02, change 2: "A move to the rank's present host is accepted and draws a number like any other.": rank 1 runs as 5.2 and restarts
+-- as 5.3; rank 0, which has 5.2 in its table, is led on by a route
+abbrev pub restart : Edge
+restart =
+    record {
+      steps =
+          opening ++
+          answers (Kind.move ∷ 1 ∷ 5 ∷ []) 5 3 0 ∷
+          refuses (Kind.move ∷ 1 ∷ 5 ∷ []) 10 ∷
+          answers (Kind.call ∷ 0 ∷ 1 ∷ []) 5 2 0 ∷
+          answers (Kind.route ∷ 0 ∷ 1 ∷ []) 1 5 3 ∷
+          answers (Kind.route ∷ 0 ∷ 1 ∷ []) 0 5 3 ∷
+          answers (Kind.land ∷ 1 ∷ []) 0 0 0 ∷
+          answers (Kind.start ∷ 3 ∷ 5 ∷ []) 5 4 0 ∷
+          answers (Kind.move ∷ 1 ∷ 5 ∷ []) 5 5 1 ∷ [];
+      then = λ s. isUnheeded (backlog s (rank 1) (rank 0)) && sameVmid (location s (rank 0) (rank 1)) (vmid 5 3);
+    }
+
 -- 07: "v1 messages moved"
 abbrev pub heed : Edge
 heed =
@@ -230,6 +248,7 @@ pub record ValuesHold : Type 0 where
   pub of-send : holds send ≡ true
   pub of-take : holds take ≡ true
   pub of-move : holds move ≡ true
+  pub of-restart : holds restart ≡ true
   pub of-heed : holds heed ≡ true
   pub of-drain : holds drain ≡ true
   pub of-land : holds land ≡ true

@@ -37,7 +37,7 @@ pub noneShared-swap : (vs ws : List Vmid) → noneShared vs ws ≡ true → none
 noneShared-swap = every-swap (λ v w. not (sameVmid v w)) (λ v w. not (sameVmid v w)) (λ v w h. rw (sameVmid-swap w v) h)
 
 -- a vmid that is drawn has a number up to the last that is drawn on its host
-drawn-number : (s : State) (v : Vmid) → isDrawn s v ≡ true → v .1 ≤ drawnOn s (v .0)
+pub drawn-number : (s : State) (v : Vmid) → isDrawn s v ≡ true → v .1 ≤ drawnOn s (v .0)
 drawn-number s v d = leb-true (v .1) (drawnOn s (v .0)) (both-right (ltb (v .0) hosts && ltb 0 (v .1)) _ d)
 
 -- a host's next vmid is none of those that are drawn

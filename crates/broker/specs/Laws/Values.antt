@@ -16,6 +16,7 @@ values-hold =
       of-send = by-computing Values.send refl;
       of-take = by-computing Values.take refl;
       of-move = by-computing Values.move refl;
+      of-restart = by-computing Values.restart refl;
       of-heed = by-computing Values.heed refl;
       of-drain = by-computing Values.drain refl;
       of-land = by-computing Values.land refl;
