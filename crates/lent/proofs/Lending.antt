@@ -80,6 +80,8 @@ use denote.Triple.Walked.{
   walk-meets,
 }
 use denote.Exit.{yes}
+use Rattle.broker.specs.Answer.{NeverEighteen}
+use Rattle.broker.specs.Laws.Restart.{never-eighteen}
 use Rattle.broker.specs.State.{view}
 use Rattle.broker.specs.Step.{Stepped}
 use Rattle.broker.specs.declared.state.Broker.{Broker}
@@ -162,6 +164,9 @@ module _ {M : Type 1} (𝓤 : URA M) (H : Heap 𝓤) (A : Atoms 𝓤) (W : Given
   abbrev Keeps : Broker → Reply → Type 0
   Keeps d r = RefusalKeeps (r .answer) h d
 
+  abbrev Never : Reply → Type 0
+  Never r = NeverEighteen (r .answer)
+
   -- a reply with the machine value u and the state that is left, of which the clauses hold
   record Came (u : Val) : Type 0 where
     reply : Reply
@@ -201,13 +206,14 @@ module _ {M : Type 1} (𝓤 : URA M) (H : Heap 𝓤) (A : Atoms 𝓤) (W : Given
     abbrev Ensured : Reply → SProp 𝓤
     Ensured r = ensured 𝓤 H A lent.ended (lent.clauses 𝓤 H A at-mem run) (α ∷ [], (κ, tt)) x tt r
 
-    -- of the callee's `ensured`: what says the last value, and the clauses of it
+    -- of the callee's `ensured`: what says the last value, and the clauses of it; what holds of every answer is dropped
     abbrev Said : Reply → Broker → SProp 𝓤
     Said r d = sep 𝓤 (A .res γ (B.the-row .coded .code d)) (sep 𝓤 (fact 𝓤 (Steps d r)) (fact 𝓤 (Keeps d r)))
 
     said : (r : Reply) → ent 𝓤 (Ensured r) (ex 𝓤 (Said r))
     said r = exE 𝓤 _ (λ ws.
-        qed W (‵ (lasts lent.ended (α ∷ [], (κ, tt)) x ws) ∷ raw (fact 𝓤 (Steps (ws .0) r)) ∷ raw (fact 𝓤 (Keeps (ws .0) r)) ∷ []) ∵
+        qed W (‵ (lasts lent.ended (α ∷ [], (κ, tt)) x ws) ∷ raw (fact 𝓤 (Steps (ws .0) r)) ∷ raw (fact 𝓤 (Keeps (ws .0) r)) ∷
+        raw (fact 𝓤 (Never r)) ∷ []) ∵
         fsplit ! $ show ! (Said r) (ws .0) $ keep ! (0 ∷ 2 ∷ 3 ∷ []) $ done !)
 
     -- what the caller has of the call
@@ -251,8 +257,9 @@ module _ {M : Type 1} (𝓤 : URA M) (H : Heap 𝓤) (A : Atoms 𝓤) (W : Given
         qed W (raw Token ∷ ‵ Log ∷ []) ∵
         suffices ! _ (ends-at 𝓤 H A by-value.ended stayed (by-value.clauses 𝓤 H A at-mem run) W
         (((κ, tt), (q, tt), tt, (h, (s, (n, tt))), at), tt) (O′.lowered o) o (tt, (tt, (tt, tt))) (tt, (tt, (tt, tt)))) $
-        suffices ! _ (assoc∗ 𝓤 left (fact 𝓤 (Steps (c .state) r)) (fact 𝓤 (Keeps (c .state) r))) $ says ! (c .keeps) $
-        says ! (c .steps) $ frame ! $
+        suffices ! _ (assoc∗ 𝓤 left (fact 𝓤 (Steps (c .state) r)) (sep 𝓤 (fact 𝓤 (Keeps (c .state) r)) (fact 𝓤 (Never r)))) $
+        suffices ! _ (assoc∗ 𝓤 (sep 𝓤 left (fact 𝓤 (Steps (c .state) r))) (fact 𝓤 (Keeps (c .state) r)) (fact 𝓤 (Never r))) $
+        says ! (never-eighteen (r .answer)) $ says ! (c .keeps) $ says ! (c .steps) $ frame ! $
         nothing ! $ owned ! usize (Is usize) (uint-makes 𝓤 H A W w64) n _ (refl, fits) $ fjoin ! $ move ! (1 ∷ 0 ∷ []) $ fjoin ! $
         owned ! B.the-row (Is B.the-row) (LL.makes B.the-type B′.the-plain 𝓤 H A) h _ h-is $ fjoin ! $ frame ! $
         owned ! O.the-row (Is O.the-row) (LL.makes O.the-type O′.the-plain 𝓤 H A) o _ (outcome-is (c .state) (c .reply) u is (c .is)) $

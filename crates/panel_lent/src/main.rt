@@ -1,4 +1,5 @@
 // The panel maker's program with a step of a lent state: the state stands in a variable, which is lent to the step.
+ghost use Rattle.broker.specs.Answer.{NeverEighteen};
 ghost use Rattle.broker.specs.State.{view};
 ghost use Rattle.broker.specs.Step.{Stepped};
 ghost use Rattle.steps.specs.Outcome.{outcome, RefusalKeeps};
@@ -11,6 +12,7 @@ use steps::Outcome;
 fn step_by_lending(mut broker: Broker, log: &[u8], at: usize) -> Outcome
     ensures { λ o. ⌜ Stepped (view broker) (now (log .entry)) at (outcome o) ⌝ }
     ensures refused_unchanged { λ o. ⌜ RefusalKeeps (o .answer) broker (o .broker) ⌝ }
+    ensures never_eighteen { λ o. ⌜ NeverEighteen (o .answer) ⌝ }
 {
     let reply = step_lent(&mut broker, log, at);
     Outcome {

@@ -1,4 +1,5 @@
 // A step in place: for those who get one record at a time and keep the working arrays between steps.
+ghost use Rattle.broker.specs.Answer.{NeverEighteen};
 ghost use Rattle.checks.specs.Desk.{Desk};
 ghost use Rattle.steps.specs.Outcome.{StepsInPlace};
 use crate::Reply;
@@ -22,6 +23,7 @@ pub fn step_in_place(
     requires { ⌜ Desk (now slots) (now contents) (now roster) ⌝ }
     ensures { λ r. ⌜ StepsInPlace (now (log .entry)) at (now (slots .entry)) (now (contents .entry)) (now (roster .entry)) r
         (now (slots .exit)) (now (contents .exit)) (now (roster .exit)) ⌝ }
+    ensures never_eighteen { λ r. ⌜ NeverEighteen (r .answer) ⌝ }
 {
     let decoded = decode(log, at);
     match decoded {

@@ -1,4 +1,5 @@
 // A step of the log: the record at a position is decoded, checked and applied. Paper 01, "The step log" and "Where each step is checked".
+ghost use Rattle.broker.specs.Answer.{NeverEighteen};
 ghost use Rattle.broker.specs.State.{view};
 ghost use Rattle.broker.specs.Step.{Stepped};
 ghost use Rattle.steps.specs.Outcome.{outcome, RefusalKeeps};
@@ -29,10 +30,12 @@ pub struct Reply {
     pub next: usize,
 }
 
-// A step of any state, sound or spoiled. A refusal gives back the very state: its unused message slots too.
+// A step of any state, sound or spoiled. A refusal gives back the very state: its unused message slots too. Paper 02, change 2: no input
+// meets 18.
 pub fn step(broker: Broker, log: &[u8], at: usize) -> Outcome
     ensures { λ o. ⌜ Stepped (view broker) (now (log .entry)) at (outcome o) ⌝ }
     ensures refused_unchanged { λ o. ⌜ RefusalKeeps (o .answer) broker (o .broker) ⌝ }
+    ensures never_eighteen { λ o. ⌜ NeverEighteen (o .answer) ⌝ }
 {
     let mut slots = [0u16; SLOTS_LENGTH];
     let mut contents = [0u32; CONTENTS_LENGTH];

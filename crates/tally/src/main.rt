@@ -5,7 +5,7 @@ use libc::STDIN_FILENO;
 use libc::STDOUT_FILENO;
 use steps::step;
 
-// The numbers of an answer: 0 where the step is accepted, and the refusals from 1 to 25.
+// The numbers of an answer: 0 where the step is accepted, and the refusals up to 25.
 const NUMBERS: usize = 26;
 
 // One more, up to the largest number that fits.

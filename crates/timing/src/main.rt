@@ -1,6 +1,7 @@
 // Makes one call of the library many times on one state, so that its time can be measured. Standard input has a byte that says which call,
 // four bytes, least significant first, that say how often, and a log that leads from the fresh state to the one that is used. What the
 // calls answered is added up and printed, so that none of them can be left out.
+ghost use Rattle.broker.specs.Answer.{NeverEighteen};
 ghost use Rattle.broker.specs.State.{view};
 ghost use Rattle.broker.specs.Step.{Stepped};
 ghost use Rattle.checks.specs.Desk.{Desk};
@@ -64,6 +65,7 @@ fn told(answer: Answer) -> u64 {
 fn step_by_lending(mut broker: Broker, log: &[u8], at: usize) -> Outcome
     ensures { λ o. ⌜ Stepped (view broker) (now (log .entry)) at (outcome o) ⌝ }
     ensures refused_unchanged { λ o. ⌜ RefusalKeeps (o .answer) broker (o .broker) ⌝ }
+    ensures never_eighteen { λ o. ⌜ NeverEighteen (o .answer) ⌝ }
 {
     let reply = step_lent(&mut broker, log, at);
     Outcome {

@@ -3,6 +3,7 @@
 use mathlib.Core.Path.{refl, sym, subst, _∙_}
 use borrow.Author.Needs.{needs}
 use borrow.Author.Tests.{not-true, not-false}
+use Rattle.broker.specs.Laws.Restart.{never-eighteen}
 use Rattle.broker.specs.State.{State, view}
 use Rattle.broker.specs.Step.{Stepped}
 use Rattle.steps.specs.Laws.InPlace.{stepped-in-place}
@@ -17,7 +18,7 @@ returns c =
     let loaded = c .before in
     let args = loaded .before .before .before .before .before .args in
     let failed = sym (loaded .load .ensures .tells) ∙ not-true _ (c .if1 .taken) in
-    (unsound-step (view (args .broker)) (args .log .now) (args .at) failed, λ n e. refl)
+    (unsound-step (view (args .broker)) (args .log .now) (args .at) failed, (λ n e. refl, never-eighteen _))
 
 step-in-place-requires : tie.Need-step-in-place-requires
 step-in-place-requires c κs =
@@ -36,8 +37,8 @@ returns-2 c =
     let passed = not-false _ (test .if1 .left) in
     let stepped =
     stepped-in-place (view (args .broker)) (sym (loaded .load .ensures .tells) ∙ passed) (loaded .load .ensures .holds passed)
-    (step .step-in-place .ensures) in
-    (refused-step (view (args .broker)) (args .log .now) (args .at) _ _ (c .enum-told .given .1) stepped, λ n e. refl)
+    (step .step-in-place .ensures .0) in
+    (refused-step (view (args .broker)) (args .log .now) (args .at) _ _ (c .enum-told .given .1) stepped, (λ n e. refl, never-eighteen _))
 
 returns-3 : tie.Need-returns-3
 returns-3 c =
@@ -49,10 +50,10 @@ returns-3 c =
     let passed = not-false _ (test .if1 .left) in
     let stepped =
     stepped-in-place (view (args .broker)) (sym (loaded .load .ensures .tells) ∙ passed) (loaded .load .ensures .holds passed)
-    (step .step-in-place .ensures) in (
+    (step .step-in-place .ensures .0) in (
       subst (λ (s : State). Stepped (view (args .broker)) (args .log .now) (args .at) (replied (step .step-in-place .result) s))
           (sym (c .unload .ensures)) stepped,
-      accepted-is-no-refusal (step .step-in-place .result .answer) _ _ _ _ _ (told .enum-told2 .given .1),
+      (accepted-is-no-refusal (step .step-in-place .result .answer) _ _ _ _ _ (told .enum-told2 .given .1), never-eighteen _),
     )
 
 pub step-spec : {M : Type 1} → statement M

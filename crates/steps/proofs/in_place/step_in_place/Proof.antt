@@ -1,6 +1,7 @@
 -- `steps::in_place::step_in_place` meets its contract: what stands at the position is settled as `settle` ensures. Assumes nothing.
 use mathlib.Core.Path.{sym, _∙_}
 use borrow.Author.Needs.{needs}
+use Rattle.broker.specs.Laws.Restart.{never-eighteen}
 use Rattle.broker.specs.State.{State}
 use Rattle.checks.specs.Desk.{deskOf}
 use Rattle.steps.specs.Laws.Step.{on-whole, on-unknown, on-cut}
@@ -19,33 +20,39 @@ returns c =
     let known = c .before .before .before .before .before in
     let decode = known .before .before in
     let start = decode .before .before in
-    let settled = c .settle .ensures in
-    record {
-      kept = settled .kept;
-      same = λ ok.
-          on-whole (held start) (start .args .log .now) (start .args .at) _ _ _ (sym (decode .decode .ensures) ∙ known .decoded .given .1)
-          (settled .same ok);
-    }
+    let settled = c .settle .ensures in (
+      record {
+        kept = settled .kept;
+        same = λ ok.
+            on-whole (held start) (start .args .log .now) (start .args .at) _ _ _ (sym (decode .decode .ensures) ∙ known .decoded .given .1)
+            (settled .same ok);
+      },
+      never-eighteen _,
+    )
 
 returns-2 : tie.Need-returns-2
 returns-2 c =
     let decode = c .before .before in
-    let start = decode .before .before in
-    record {
-      kept = start .pre;
-      same = λ ok.
-          on-unknown (held start) (start .args .log .now) (start .args .at) (sym (decode .decode .ensures) ∙ c .enum-told .given .1);
-    }
+    let start = decode .before .before in (
+      record {
+        kept = start .pre;
+        same = λ ok.
+            on-unknown (held start) (start .args .log .now) (start .args .at) (sym (decode .decode .ensures) ∙ c .enum-told .given .1);
+      },
+      never-eighteen _,
+    )
 
 returns-3 : tie.Need-returns-3
 returns-3 c =
     let decode = c .before .before in
-    let start = decode .before .before in
-    record {
-      kept = start .pre;
-      same = λ ok.
-          on-cut (held start) (start .args .log .now) (start .args .at) (sym (decode .decode .ensures) ∙ c .enum-told2 .given .1);
-    }
+    let start = decode .before .before in (
+      record {
+        kept = start .pre;
+        same = λ ok.
+            on-cut (held start) (start .args .log .now) (start .args .at) (sym (decode .decode .ensures) ∙ c .enum-told2 .given .1);
+      },
+      never-eighteen _,
+    )
 
 pub step-in-place-spec : {M : Type 1} → statement M
 step-in-place-spec =
