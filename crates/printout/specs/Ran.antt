@@ -1,10 +1,11 @@
 -- What a run of a piece of the input comes to, beside the page and on it. Paper 01, "The printed run". Assumes nothing.
 use mathlib.Core.Bool.{true}
-use mathlib.Core.List.{List}
+use mathlib.Core.List.{List, [], _∷_}
 use mathlib.Core.Path.{_≡_}
 use Prim.Native.Nat.{ℕ, _+_, _*_, _≤_, _<_}
 use lib.ListN.{length, take}
 use Rattle.lines.specs.Lines.{recordRoom}
+use Rattle.broker.specs.Answer.{NeverEighteen}
 use Rattle.broker.specs.Record.{decode}
 use Rattle.broker.specs.Sound.{sound}
 use Rattle.broker.specs.State.{State}
@@ -25,15 +26,28 @@ pub record Ran (s : State) (piece : List ℕ) (base steps : ℕ) (state : State)
   pub stays : sound state ≡ true
   pub shown : text ≡ linesOf answers
 
+-- Paper 02, change 2: "no input meets it", of the steps of a run
+abbrev pub NeverEighteenIn : List Answered → Type 0
+NeverEighteenIn [] = Unit {0}
+NeverEighteenIn (a ∷ rest) = NeverEighteen (a .answer) × NeverEighteenIn rest
+
+-- a text has the lines of some steps, and nothing else
+pub record Lines (text : List ℕ) : Type 0 where
+  pub answers : List Answered
+  pub shown : text ≡ linesOf answers
+  pub never-eighteen : NeverEighteenIn answers
+
 -- why it stops: the page has no room for another line, or no whole record stands there
 abbrev pub Stops : Stop → List ℕ → ℕ → ℕ → ℕ → Type 0
 Stops PageFull piece at used room = room < used + recordRoom
 Stops KindUnknown piece at used room = decode piece at ≡ Unknown
 Stops RecordCut piece at used room = decode piece at ≡ Cut
 
--- some whole records of a piece are run, where the state was sound, and a page of so many bytes shows their lines
+-- some whole records of a piece are run, and a page of so many bytes shows lines of steps; where the state was sound, they are those of the
+-- definition
 pub record RanSome (s : State) (piece : List ℕ) (base room : ℕ) (state : State) (at used steps : ℕ) (page : List ℕ) : Type 0 where
   pub ran : sound s ≡ true → Ran s piece base steps state at (take used page)
+  pub lines : Lines (take used page)
   pub inside : at ≤ length piece
   pub fits : used ≤ length page
   pub keeps : length page ≡ room

@@ -10,6 +10,7 @@ use lib.Seq.{drop-append-le}
 use Rattle.page.specs.Laws.Put.{shows}
 use Rattle.page.specs.Put.{Put}
 use Rattle.lines.specs.Lines.{recordLine, recordRoom}
+use Rattle.broker.specs.Laws.Restart.{never-eighteen}
 use Rattle.broker.specs.Record.{decode}
 use Rattle.broker.specs.Sound.{sound}
 use Rattle.broker.specs.State.{State}
@@ -21,7 +22,8 @@ use Rattle.printout.specs.Laws.Steps.{settled-sound}
 use Rattle.printout.specs.Laws.Text.{lines-append}
 use Rattle.printout.specs.Laws.Wholes.{one-last, run-within, in-a-row, wholes-dropped}
 use Rattle.printout.specs.Laws.Window.{stands}
-use Rattle.printout.specs.Ran.{Ran, RanSome}
+use Rattle.printout.specs.Ran.{NeverEighteenIn, Lines, Ran, RanSome}
+use Rattle.printout.specs.Run.{Answered}
 use Rattle.printout.specs.Wholes.{answeredAt, settled, wholes}
 
 -- One whole record more is run.
@@ -39,6 +41,20 @@ ran-more {s} {piece} {base} {steps} {state} {at} i r next e =
       shown = rw (i .shown, lines-append (i .answers), append-nil);
     }
 
+-- No step has the number 18.
+never-in : (answers : List Answered) → NeverEighteenIn answers
+never-in [] = tt
+never-in (a ∷ rest) = (never-eighteen (a .answer), never-in rest)
+
+-- The line of one step more.
+line-more : {text : List ℕ} → Lines text → (a : Answered) → Lines (text ++ recordLine (a .at) (a .kind) (a .answer))
+line-more i a =
+    record {
+      answers = i .answers ++ a ∷ [];
+      shown = rw (i .shown, lines-append (i .answers), append-nil);
+      never-eighteen = never-in (i .answers ++ a ∷ []);
+    }
+
 -- Before the first record nothing is run, and nothing is on the page.
 ran-none : (s : State) (piece : List ℕ) (base : ℕ) → sound s ≡ true → Ran s piece base 0 s 0 []
 unfolding wholes
@@ -46,8 +62,15 @@ ran-none s piece base ok = record { answers = []; came = refl; counted = refl; s
 
 pub some-none : (s : State) (piece : List ℕ) (base : ℕ) (page : List ℕ) → RanSome s piece base (length page) s 0 0 0 page
 some-none s piece base page =
-    let none = ran-none s piece base in
-    record { ran = none; inside = omega arith; fits = omega arith; keeps = refl; taken = omega arith; moved = omega arith }
+    record {
+      ran = ran-none s piece base;
+      lines = record { answers = []; shown = refl; never-eighteen = tt };
+      inside = omega arith;
+      fits = omega arith;
+      keeps = refl;
+      taken = omega arith;
+      moved = omega arith;
+    }
 
 -- A whole record more is run where the page has room for its line.
 pub some-more : {s : State} {piece : List ℕ} {base room : ℕ} {state : State} {at used steps : ℕ} {page : List ℕ} →
@@ -59,6 +82,7 @@ some-more {piece = piece} {at = at} i r next e x f after end p h =
     let there = stands piece at e in
     record {
       ran = λ ok. let before = i .ran ok in rw (shows p h, f (before .stays)) (ran-more before r next e);
+      lines = rw (shows p h) (line-more (i .lines) (answeredAt _ piece at (x .answer)));
       inside = there .fits;
       fits = omega (arith, p .within, p .room);
       keeps = p .room ∙ i .keeps;
