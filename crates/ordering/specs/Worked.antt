@@ -3,5 +3,7 @@ pub mod Account
 pub mod Result
 pub mod Unbroken
 pub mod Counted
-pub mod Examples
+pub mod Unlanded
 pub mod Listing
+pub mod Overlapping
+pub mod Restarts

@@ -14,12 +14,13 @@ use Rattle.transit.specs.declared.Rank.{Rank}
 use Rattle.transit.specs.declared.Selection.the-variants.{Between}
 use Rattle.broker.specs.Checks.{is}
 use Rattle.broker.specs.Kind
-use Rattle.broker.specs.Record.{firstRank, secondRank}
+use Rattle.broker.specs.Record.{firstRank, secondRank, bytesOf}
 use Rattle.broker.specs.State.{idle, fresh, messages}
 use Rattle.broker.specs.declared.process.Process.{Process}
 use Rattle.broker.specs.declared.process.Request.the-variants.{Absent}
 use Rattle.broker.specs.declared.process.Status.{Status}
 use Rattle.broker.specs.declared.record.Record.{Record}
+use Rattle.broker.specs.declared.record.Record.the-variants.{Start, Call, Route, Send, Take, Move, Heed, Drain, Land, Part, End, Look}
 use Rattle.ordering.specs.Worked.Account.{Account, account}
 use Rattle.ordering.specs.Claim.{
   Reading,
@@ -133,3 +134,21 @@ did r v1 = record { read = r; v1 = v1 }
 
 abbrev pub process : Status → Process
 process t = record { status = t; request = Absent }
+
+-- the bytes of a record; and the readings of a list of records, each a whole log
+abbrev pub written : Record → List ℕ
+written (Start r h) = Kind.start ∷ r .0 ∷ h ∷ []
+written (Call a b) = Kind.call ∷ a .0 ∷ b .0 ∷ []
+written (Route a b) = Kind.route ∷ a .0 ∷ b .0 ∷ []
+written (Send a b v) = Kind.send ∷ a .0 ∷ b .0 ∷ bytesOf v
+written (Take b a) = Kind.take ∷ b .0 ∷ a .0 ∷ []
+written (Move r h) = Kind.move ∷ r .0 ∷ h ∷ []
+written (Heed b r) = Kind.heed ∷ b .0 ∷ r .0 ∷ []
+written (Drain r p) = Kind.drain ∷ r .0 ∷ p .0 ∷ []
+written (Land r) = Kind.land ∷ r .0 ∷ []
+written (Part a b) = Kind.part ∷ a .0 ∷ b .0 ∷ []
+written (End r) = Kind.end ∷ r .0 ∷ []
+written (Look r) = Kind.look ∷ r .0 ∷ []
+
+abbrev pub readings : List Entry → List Reading
+readings = map (λ (e : Entry). whole (written (e .read)))
