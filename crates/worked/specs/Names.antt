@@ -470,6 +470,14 @@ unfolding openedNames
 mover-shares-with-its-arrival-is-unsound = names-unsound mover-shares-with-its-arrival refl
 
 -- "No two running processes, movers or arrivals share a vmid."
+abbrev pub two-restart-on-one-host : State
+two-restart-on-one-host = changed everything (drawn 4 6 ∷ moving 1 4 3 4 4 ∷ moving 6 4 5 4 6 ∷ [])
+
+pub two-restart-on-one-host-is-sound : sound two-restart-on-one-host ≡ true
+unfolding openedSound
+two-restart-on-one-host-is-sound = refl
+
+-- "No two running processes, movers or arrivals share a vmid."
 abbrev pub arrival-shares-with-running : State
 arrival-shares-with-running = changed everything (moving 6 6 1 0 1 ∷ [])
 
