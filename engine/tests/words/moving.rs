@@ -3,13 +3,13 @@
 use crate::program::{assert_told, log_of};
 
 /// Moves with no await, one and two; sends to a mover and to an arrival; heeds
-/// with nothing on the lane and with something.
+/// with nothing on the lane and with something; and at last a restart.
 const STEPS: &str = "\
     start 0 0, move 0 4, land 0, start 1 1, start 2 1, call 0 1, route 0 1, call 2 1, \
     route 2 1, send 0 1 10, send 1 0 20, send 1 0 21, send 1 2 30, move 1 3, send 0 1 11, \
     heed 0 1, heed 2 1, call 0 1, route 0 1, route 0 1, send 0 1 12, drain 1 0, drain 1 0, \
     drain 1 0, drain 1 2, land 1, take 1 0, move 1 0, heed 0 1, drain 1 0, drain 1 0, \
-    land 1, take 1 0, move 1 7, land 1";
+    land 1, take 1 0, move 1 7, land 1, move 1 7, land 1";
 
 /// What is told of them.
 const TOLD: &str = "\
@@ -90,11 +90,16 @@ const TOLD: &str = "\
     The mover has no await: rank 1 can land at once.
 123 09 0 1 0 0
     land 1: rank 1 lands: the arrival gets the mover's list and is the running process now; 1 message is in its list.
+125 06 0 7 2 0
+    move 1 7: rank 1 begins its restart on host 7, where it runs: the old process is its mover, the new one, 7.2, its arrival.
+    The mover has no await: rank 1 can land at once.
+128 09 0 1 0 0
+    land 1: rank 1 lands: the arrival gets the mover's list and is the running process now; 1 message is in its list.
 pair 0 1 0 0 1 0
 pair 1 0 0 0 2 0
 pair 1 2 0 0 1 0
 end
-    35 records: 35 accepted, none refused.
+    37 records: 37 accepted, none refused.
     No move is open.
     From rank 0 to rank 1: 1 unread, 1 in the list of the current end.
     From rank 1 to rank 0: 2 unread, 2 in the list of the current end.

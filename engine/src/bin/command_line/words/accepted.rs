@@ -14,7 +14,7 @@ pub fn sentences(step: Step, values: Values, moves: &OpenMoves) -> String {
         Step::Route { a, b } => route(a, b, values),
         Step::Send { a, b, value } => send(a, b, value, v1, moves.end_reached(a, b)),
         Step::Take { b, a } => take(b, a, v1, v2),
-        Step::Move { r, h } => begin_move(r, h, v1, v2, v3),
+        Step::Move { r, .. } => begin_move(r, values, moves.is_present_host(r, v1)),
         Step::Heed { b, r } => heed(b, r, v1),
         Step::Drain { r, s } => drain(r, s, v1, v2),
         Step::Land { r } => land(r, v1),
@@ -67,7 +67,7 @@ fn take(Rank(b): Rank, Rank(a): Rank, value: u32, unread: u32) -> String {
     format!("rank {b} takes {value}, the first unread message from rank {a}; {left} left.")
 }
 
-fn begin_move(Rank(r): Rank, Host(h): Host, host: u32, number: u32, awaits: u32) -> String {
+fn begin_move(Rank(r): Rank, [host, number, awaits]: Values, restarts: bool) -> String {
     let awaited = match awaits {
         0 => format!("The mover has no await: rank {r} can land at once."),
         1 => format!(
@@ -79,8 +79,12 @@ fn begin_move(Rank(r): Rank, Host(h): Host, host: u32, number: u32, awaits: u32)
              each up to its end marker, before rank {r} lands."
         ),
     };
+    let begun = match restarts {
+        true => format!("rank {r} begins its restart on host {host}, where it runs"),
+        false => format!("rank {r} begins its move to host {host}"),
+    };
     format!(
-        "rank {r} begins its move to host {h}: the old process is its mover, \
+        "{begun}: the old process is its mover, \
          the new one, {host}.{number}, its arrival.\n{awaited}"
     )
 }

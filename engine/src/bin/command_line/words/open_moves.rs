@@ -1,12 +1,15 @@
 //! The moves that are open: "A move is open from its accepted 06 until its
-//! accepted 09" (paper 01, "Lists of steps").
+//! accepted 09" (paper 01, "Lists of steps"); and where each rank is.
 
 use engine::rank_set::RankSet;
 use engine::{Rank, Step, Values};
 
-/// The open move of each rank that has one.
+/// The open move of each rank that has one, and the host of its current end.
 #[derive(Default)]
-pub struct OpenMoves([Option<OpenMove>; Rank::COUNT]);
+pub struct OpenMoves {
+    moves: [Option<OpenMove>; Rank::COUNT],
+    hosts: [Option<u32>; Rank::COUNT],
+}
 
 /// An open move.
 #[derive(Clone, Copy, Debug, PartialEq)]
@@ -30,14 +33,16 @@ impl OpenMoves {
     /// Follows an accepted step.
     pub fn follow(&mut self, step: Step, values: Values) {
         match (step, values) {
+            (Step::Start { r, .. }, [host, ..]) => self.hosts[r.index()] = Some(host),
             (Step::Move { r, .. }, [host, number, _]) => {
-                self.0[r.index()] = Some(OpenMove {
+                self.hosts[r.index()] = Some(host);
+                self.moves[r.index()] = Some(OpenMove {
                     host,
                     number,
                     joined: RankSet::EMPTY,
                 });
             }
-            (Step::Land { r }, _) => self.0[r.index()] = None,
+            (Step::Land { r }, _) => self.moves[r.index()] = None,
             (Step::Route { a, b }, [0, ..]) => {
                 self.join(a, b);
                 self.join(b, a);
@@ -47,14 +52,19 @@ impl OpenMoves {
     }
 
     fn join(&mut self, moving: Rank, other: Rank) {
-        if let Some(open) = &mut self.0[moving.index()] {
+        if let Some(open) = &mut self.moves[moving.index()] {
             open.joined.insert(other);
         }
     }
 
+    /// Whether a host is "the rank's present host" (paper 02, Change 2).
+    pub fn is_present_host(&self, rank: Rank, host: u32) -> bool {
+        self.hosts[rank.index()] == Some(host)
+    }
+
     /// Where an accepted send goes.
     pub fn end_reached(&self, sender: Rank, receiver: Rank) -> End {
-        match self.0[receiver.index()] {
+        match self.moves[receiver.index()] {
             None => End::Running,
             Some(open) if open.joined.contains(sender) => End::Arrival,
             Some(_) => End::Mover,
@@ -63,7 +73,7 @@ impl OpenMoves {
 
     /// The ranks with open moves, ascending.
     pub fn all(&self) -> impl Iterator<Item = (Rank, OpenMove)> + '_ {
-        Rank::all().filter_map(|rank| self.0[rank.index()].map(|open| (rank, open)))
+        Rank::all().filter_map(|rank| self.moves[rank.index()].map(|open| (rank, open)))
     }
 }
 
