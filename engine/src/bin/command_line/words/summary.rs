@@ -5,13 +5,14 @@ use super::counted::or_none;
 use super::open_moves::OpenMoves;
 use crate::steps::{Pair, Told};
 use engine::Refusal;
+use std::collections::BTreeMap;
 
 /// The counts of a run so far.
 #[derive(Default)]
 pub struct Summary {
     accepted: u64,
-    /// How many records each refusal of `Refusal::ALL` refused.
-    refused: [u64; Refusal::ALL.len()],
+    /// How many records each refusal refused.
+    refused: BTreeMap<Refusal, u64>,
     /// The position of a record that 2 or 3 refused.
     stopped: Option<u64>,
     unread: Vec<Pair>,
@@ -23,7 +24,7 @@ impl Summary {
         match Refusal::from_number(told.number) {
             None => self.accepted += 1,
             Some(refusal) => {
-                self.refused[usize::from(refusal.number()) - 1] += 1;
+                *self.refused.entry(refusal).or_default() += 1;
                 if refusal.keeps_position() {
                     self.stopped = Some(told.position);
                 }
@@ -47,7 +48,7 @@ impl Summary {
     }
 
     fn records(&self) -> String {
-        let refused = self.refused.iter().sum();
+        let refused = self.refused.values().sum();
         let count = match self.accepted + refused {
             0 => return "No records: the log is empty.".to_owned(),
             1 => "1 record".to_owned(),
@@ -59,13 +60,10 @@ impl Summary {
 
     /// A line for each number that was given.
     fn refusals(&self) -> impl Iterator<Item = String> + '_ {
-        let counts = Refusal::ALL.into_iter().zip(self.refused);
-        counts
-            .filter(|(_, count)| *count > 0)
-            .map(|(refusal, count)| {
-                let (number, meaning) = (refusal.number(), refusal.meaning());
-                format!("{count} refused with {number}: {meaning}.")
-            })
+        self.refused.iter().map(|(refusal, count)| {
+            let (number, meaning) = (refusal.number(), refusal.meaning());
+            format!("{count} refused with {number}: {meaning}.")
+        })
     }
 
     fn pairs(&self) -> Vec<String> {
