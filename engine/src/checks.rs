@@ -1,13 +1,14 @@
-//! Checks 4 to 25 of paper 01, "Where each step is checked". For each kind the
-//! checks that name it stand by ascending number, so that "the lowest number
-//! that applies is given".
+//! Checks 4 to 25 of paper 01, "Where each step is checked", without 18: paper
+//! 02, Change 2, "Number 18 is given no more". For each kind the checks that
+//! name it stand by ascending number, so that "the lowest number that applies
+//! is given".
 
 use crate::desk::Desk;
 use crate::mail::Mail;
 use crate::names::{Host, Rank, Vmid};
 use crate::record::Step;
 use crate::refusal::Refusal;
-use crate::snapshot::{Await, Line, Standing};
+use crate::snapshot::{Await, Line};
 
 type Passed = Result<(), Refusal>;
 
@@ -60,7 +61,6 @@ impl Desk {
                 self.started(r)?;
                 self.first_running(r)?;
                 self.no_call_open(r)?;
-                refuse_if(self.runs_on(r, h), Refusal::SameHost)?;
                 self.numbers_left(h)
             }
             Step::Heed { b, r } => {
@@ -153,10 +153,6 @@ impl Desk {
     fn numbers_left(&self, host: Host) -> Passed {
         let exhausted = self.drawn(host) == Vmid::LAST_NUMBER;
         refuse_if(exhausted, Refusal::NumbersExhausted)
-    }
-
-    fn runs_on(&self, rank: Rank, host: Host) -> bool {
-        matches!(self.standing(rank), Standing::Running(vmid) if vmid.host() == host)
     }
 }
 

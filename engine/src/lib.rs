@@ -1,4 +1,4 @@
-//! The panel message desk of paper 01, with what paper 02 adds: a second engine,
+//! The panel message desk of paper 01 as paper 02 changes it: a second engine,
 //! written from the papers' text alone, whose printed runs other implementations
 //! are compared with. `Snapshot` is the plain state, `Desk` the same state kept
 //! for speed.

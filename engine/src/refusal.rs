@@ -1,5 +1,6 @@
 //! What a step answers: three values, or the refusal of one check. The cases
-//! and their numbers are the table of paper 01, "Where each step is checked".
+//! and their numbers are the table of paper 01, "Where each step is checked",
+//! without 18: paper 02, Change 2, "Number 18 is given no more".
 
 /// v1, v2, v3: "the answer's values; an unnamed one is 0".
 pub type Values = [u32; 3];
@@ -45,8 +46,6 @@ pub enum Refusal {
     LineIsNotice = 16,
     /// Heed: line is not notice.
     LineIsNotNotice = 17,
-    /// Move: h is r's host.
-    SameHost = 18,
     /// Land: an await is not none.
     AwaitStands = 19,
     /// Drain: await of s is none.
@@ -65,7 +64,7 @@ pub enum Refusal {
 
 impl Refusal {
     /// All refusals, ascending by number.
-    pub const ALL: [Refusal; 25] = [
+    pub const ALL: [Refusal; 24] = [
         Refusal::UnsoundState,
         Refusal::UnknownKind,
         Refusal::CutShort,
@@ -83,7 +82,6 @@ impl Refusal {
         Refusal::NoLine,
         Refusal::LineIsNotice,
         Refusal::LineIsNotNotice,
-        Refusal::SameHost,
         Refusal::AwaitStands,
         Refusal::NoAwait,
         Refusal::NothingToDrain,
@@ -93,7 +91,7 @@ impl Refusal {
         Refusal::NumbersExhausted,
     ];
 
-    /// The refusal with this number.
+    /// The refusal with this number; none where no answer has it.
     pub fn from_number(number: u8) -> Option<Refusal> {
         Refusal::ALL
             .into_iter()

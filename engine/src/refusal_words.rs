@@ -1,10 +1,19 @@
 //! What each refusal of paper 01, "Where each step is checked", means at the
 //! rack, and what to do: the one source of a run told in words, and of the
-//! table in docs/REFUSALS.md.
+//! table in docs/REFUSALS.md, which also has the numbers that are withdrawn.
 
 use crate::refusal::Refusal;
 
 impl Refusal {
+    /// The numbers that no input meets any more, each with the two columns of
+    /// its row: paper 02, Change 2, "Number 18 is given no more".
+    pub const WITHDRAWN: [(u8, &str, &str); 1] = [(
+        18,
+        "no longer given, since change 2: a move to the rank's own host is a restart, and is \
+            accepted",
+        "nothing; a log or a program that still counts on this number is older than change 2",
+    )];
+
     /// What it means at the rack, as the end of a sentence.
     pub fn meaning(self) -> &'static str {
         self.words().0
@@ -91,10 +100,6 @@ impl Refusal {
                 "a heed where the line is not a notice",
                 "nothing: the other end is not moving, was heeded already, or moves at the same \
                     time, when no heed is needed",
-            ),
-            Refusal::SameHost => (
-                "a move to the host where the rank runs",
-                "name another host",
             ),
             Refusal::AwaitStands => (
                 "a landing while there is still an await",

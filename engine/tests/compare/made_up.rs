@@ -10,8 +10,9 @@ use engine::bits::Bits;
 const LOW_SEEDS: u32 = 260;
 const SPREAD_SEEDS: u32 = 260;
 
-/// The seed of a sequence that is known outside, and the greatest one.
-const NAMED_SEEDS: [u32; 2] = [2_463_534_242, u32::MAX];
+/// The seed of a sequence that is known outside, the greatest one, and one of
+/// the few whose passes come to 23.
+const NAMED_SEEDS: [u32; 3] = [2_463_534_242, u32::MAX, 554];
 
 const RECORDS: usize = 2_000;
 const LONG: usize = 1_000_000;
@@ -98,7 +99,7 @@ pub fn logs() -> Vec<Log> {
 mod tests {
     use super::{logs, seeds};
     use crate::log::Log;
-    use crate::tally::{Tally, NUMBERS};
+    use crate::tally::{numbers, Tally};
     use engine::Kind;
     use std::collections::BTreeSet;
 
@@ -119,7 +120,7 @@ mod tests {
         for kind in Kind::ALL {
             assert!(tally.accepted(kind) > 0, "no {} is accepted", kind.word());
         }
-        let missing: Vec<usize> = NUMBERS.filter(|&n| tally.refused(n) == 0).collect();
+        let missing: Vec<usize> = numbers().filter(|&n| tally.refused(n) == 0).collect();
         assert_eq!(missing, TOO_FAR);
     }
 

@@ -4,20 +4,22 @@
 use crate::log::Log;
 use crate::situations::Situations;
 use engine::{Desk, Kind, Refusal, Step};
-use std::ops::RangeInclusive;
 
 /// The highest number of the table of checks.
 const HIGHEST: usize = Refusal::NumbersExhausted as usize;
 
 /// The numbers that can be given from a fresh desk, where 1 cannot.
-pub const NUMBERS: RangeInclusive<usize> = 2..=HIGHEST;
+pub fn numbers() -> impl Iterator<Item = usize> {
+    let numbers = Refusal::ALL.into_iter().map(Refusal::number);
+    numbers.map(usize::from).filter(|&number| number > 1)
+}
 
 /// Bytes that are no kind are counted together, before the kinds.
 const SORTS: usize = Kind::ALL.len() + 1;
 
-/// For each number from 4 on, the kinds that paper 01's table names.
+/// For each number from 4 on but 18, the kinds that paper 01's table names.
 #[rustfmt::skip]
-const NAMED: [(usize, &[Kind]); 22] = {
+const NAMED: [(usize, &[Kind]); 21] = {
     use Kind::{Call, Drain, End, Heed, Land, Look, Move, Part, Route, Send, Start, Take};
     [
         (4, &Kind::ALL),
@@ -34,7 +36,6 @@ const NAMED: [(usize, &[Kind]); 22] = {
         (15, &[Send, Part]),
         (16, &[Part]),
         (17, &[Heed]),
-        (18, &[Move]),
         (19, &[Land]),
         (20, &[Drain]),
         (21, &[Drain]),
@@ -111,7 +112,7 @@ impl Tally {
             let (byte, word, count) = (kind as u8, kind.word(), self.accepted(kind));
             lines.push(format!("accepted {byte:02X} {word}: {count}"));
         }
-        for number in NUMBERS {
+        for number in numbers() {
             lines.push(format!("refused with {number}: {}", self.refused(number)));
         }
         lines.join("\n") + "\n"
@@ -124,8 +125,8 @@ impl Tally {
         self.answers_report() + &lines.concat()
     }
 
-    /// Every kind is accepted, every number from 2 on is given, from 3 on in
-    /// every kind that the table names, and every situation comes up.
+    /// Every kind is accepted, every number from 2 on but 18 is given, from 3
+    /// on in every kind that the table names, and every situation comes up.
     pub fn check(&self) {
         for kind in Kind::ALL {
             let word = kind.word();
@@ -138,6 +139,9 @@ impl Tally {
                 let count = self.answers[number][kind as usize];
                 assert!(count > 0, "no {} gets {number}", kind.word());
             }
+        }
+        for (number, ..) in Refusal::WITHDRAWN {
+            assert_eq!(self.refused(usize::from(number)), 0, "{number} is given");
         }
         for (situation, count) in self.situations.rows() {
             assert!(count > 0, "no {situation}");

@@ -20,24 +20,21 @@ fn table_of(name: &str, header: &str) -> Table {
     found.unwrap_or_else(|| panic!("{name} has no table '{header}'"))
 }
 
-/// Cell by cell what a run in words says of each.
+/// Cell by cell what a run in words says of each, and that the withdrawn
+/// numbers are given no more.
 #[test]
-fn every_refusal_is_explained() {
+fn every_number_is_explained() {
     let header = "| Number | What it means at the rack | What to do |";
     let table = table_of("docs/REFUSALS.md", header);
-    let explained = Refusal::ALL.map(|refusal| {
-        let number = refusal.number().to_string();
-        vec![
-            number,
-            refusal.meaning().to_owned(),
-            refusal.remedy().to_owned(),
-        ]
+    let given = Refusal::ALL.map(|refusal| (refusal.number(), refusal.meaning(), refusal.remedy()));
+    let mut numbers = [&given[..], &Refusal::WITHDRAWN].concat();
+    numbers.sort();
+    let explained = numbers.iter().map(|&(number, meaning, remedy)| {
+        vec![number.to_string(), meaning.to_owned(), remedy.to_owned()]
     });
-    assert_eq!(table.rows, explained);
-    assert_eq!(
-        Refusal::ALL.map(Refusal::number)[..],
-        *Vec::from_iter(1..=25)
-    );
+    assert_eq!(table.rows, Vec::from_iter(explained));
+    let numbers = numbers.iter().map(|&(number, ..)| number);
+    assert!(numbers.eq(1..=25));
 }
 
 /// In the words of the second engine and of the program.

@@ -1,6 +1,7 @@
-//! Paper 01's table of checks read row by row on the plain state: each number
-//! has its own test of when it is given, and the lowest that applies is given.
-//! The engine's own checks are ordered kind by kind; the two must agree.
+//! Paper 01's table of checks read row by row on the plain state, without the
+//! row of 18, which paper 02, Change 2, has "given no more": each number has
+//! its own test of when it is given, and the lowest that applies is given. The
+//! engine's own checks are ordered kind by kind; the two must agree.
 
 use engine::{Await, Line, Snapshot, Standing};
 
@@ -8,7 +9,8 @@ use engine::{Await, Line, Snapshot, Standing};
 /// kind in a sound state, or 0.
 pub fn lowest_number(state: &Snapshot, record: &[u8]) -> u8 {
     let row = Row { state, record };
-    (4..=25).find(|&number| row.applies(number)).unwrap_or(0)
+    let mut numbers = (4..=17).chain(19..=25);
+    numbers.find(|&number| row.applies(number)).unwrap_or(0)
 }
 
 struct Row<'a> {
@@ -91,10 +93,6 @@ impl Row<'_> {
             15 => self.is(&[0x04, 0x0A]) && self.line() == Line::None,
             16 => self.is(&[0x0A]) && self.line() == Line::Notice,
             17 => self.is(&[0x07]) && self.line() != Line::Notice,
-            18 => {
-                let end = self.standing().current_end();
-                self.is(&[0x06]) && end.is_some_and(|vmid| vmid.host().0 == self.record[2])
-            }
             19 => {
                 let awaits = &state.awaits[self.first()];
                 self.is(&[0x09]) && awaits.iter().any(|&awaited| awaited != Await::None)
@@ -113,7 +111,7 @@ impl Row<'_> {
             23 => self.is(&[0x0B]) && self.any_message(None, self.first(), ANY_PLACE),
             24 => self.is(&[0x04]) && state.messages.len() >= 1_024,
             25 => self.is(&[0x01, 0x06]) && state.drawn[self.second()] >= 65_535,
-            _ => unreachable!("the table ends at 25"),
+            _ => unreachable!("the table has no such row"),
         }
     }
 }

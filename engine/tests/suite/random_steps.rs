@@ -6,7 +6,7 @@ use crate::situations::Situations;
 use engine::generate::{Generator, Mix};
 use engine::{broken_clauses, Desk, Kind, Rank, Snapshot, Step, Values};
 
-const SEEDS: std::ops::Range<u64> = 1..7;
+const SEEDS: std::ops::Range<u64> = 4..10;
 const STEPS: usize = 25_000;
 
 /// The values sent and taken, from the answers alone, for each ordered pair.

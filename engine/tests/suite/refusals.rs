@@ -1,6 +1,7 @@
 //! Every refusal from 2 to 25 in every kind that paper 01's table of checks
 //! names for it: the number, zero values, an unchanged state, and a position
-//! that passes the record. Every pair of the table is reachable.
+//! that passes the record. Every pair of the table is reachable but that of 18,
+//! which is given no more (paper 02, Change 2).
 
 use crate::edges::nearly_exhausted;
 use crate::text::{desk_after_log, kind_of, log_of, number_after, JOINED, WORDS};
@@ -10,7 +11,7 @@ use std::collections::BTreeSet;
 
 /// Ranks 0 and 1 joined, rank 2 ended, rank 3 moving with an await of 0 that
 /// is unheeded, so that 0's line to 3 is notice; rank 4 unstarted.
-const CROWD: &str = "start 0 0, start 1 1, call 0 1, route 0 1, start 2 2, end 2, start 3 3, \
+pub const CROWD: &str = "start 0 0, start 1 1, call 0 1, route 0 1, start 2 2, end 2, start 3 3, \
     call 0 3, route 0 3, move 3 4";
 
 /// Rank 0 started, nobody else.
@@ -48,7 +49,6 @@ const ROWS: &[Row] = &[
     (15, CROWD, &["send 1 3 1", "send 0 2 1", "part 1 3", "part 1 2"]),
     (16, CROWD, &["part 0 3"]),
     (17, CROWD, &["heed 0 1", "heed 1 0", "heed 0 2", "heed 1 3", "heed 3 0", "heed 3 1"]),
-    (18, CROWD, &["move 0 0", "move 1 1"]),
     (19, CROWD, &["land 3"]),
     (19, "start 0 0, start 1 1, call 0 1, route 0 1, move 1 2, heed 0 1", &["land 1"]),
     (20, CROWD, &["drain 3 1", "drain 3 2"]),
@@ -75,7 +75,6 @@ const NAMED: &[(u8, &[&str])] = &[
     (15, &["send", "part"]),
     (16, &["part"]),
     (17, &["heed"]),
-    (18, &["move"]),
     (19, &["land"]),
     (20, &["drain"]),
     (21, &["drain"]),
@@ -99,11 +98,17 @@ fn rows() -> Vec<(u8, Vec<u8>, &'static [&'static str])> {
     let mut exhausted = nearly_exhausted();
     exhausted.extend(log_of("start 1 1"));
     rows.push((8, exhausted.clone(), &["start 0 0", "start 1 1"]));
-    rows.push((18, exhausted.clone(), &["move 0 0", "move 1 1"]));
     rows.push((
         25,
         exhausted,
-        &["start 2 0", "start 2 1", "move 0 1", "move 1 0"],
+        &[
+            "start 2 0",
+            "start 2 1",
+            "move 0 1",
+            "move 1 0",
+            "move 0 0",
+            "move 1 1",
+        ],
     ));
     rows
 }

@@ -13,7 +13,7 @@ const MOVING: &str = "start 0 0, start 1 1, call 0 1, route 0 1, move 1 2";
 type Row = (u8, &'static str, &'static str);
 
 #[rustfmt::skip]
-const ROWS: [Row; 20] = [
+const ROWS: [Row; 19] = [
     (4, ALONE, "start 16 0"),
     (5, ALONE, "start 1 8"),
     (6, ALONE, "call 0 0"),
@@ -28,7 +28,6 @@ const ROWS: [Row; 20] = [
     (15, TWO, "send 0 1 5"),
     (16, MOVING, "part 0 1"),
     (17, JOINED, "heed 0 1"),
-    (18, ALONE, "move 0 0"),
     (19, MOVING, "land 1"),
     (20, "start 0 0, start 1 1, move 0 2", "drain 0 1"),
     (21, MOVING, "drain 1 0"),
@@ -81,7 +80,7 @@ fn every_refusal_is_told() {
 #[test]
 fn rows_reach_every_number_that_a_whole_record_gets() {
     let numbers: Vec<u8> = rows().iter().map(|(number, ..)| *number).collect();
-    assert_eq!(numbers, Vec::from_iter(4..=25));
+    assert_eq!(numbers, Vec::from_iter((4..=17).chain(19..=25)));
 }
 
 const UNKNOWN: &str = "\

@@ -1,12 +1,13 @@
 //! A log whose records are all refused, after those that make a desk at which
-//! every number from 4 to 23 can be given. 24 and 25 need a full desk and a
-//! host without numbers, 2 and 3 end a run, and 1 is never given in one.
+//! every refusal from 4 to 23 can be given; 18 is none. 24 and 25 need a full
+//! desk and a host without numbers, 2 and 3 end a run, and 1 is never given in
+//! one.
 
 use crate::pass::Pass;
 use engine::{Host, Kind, Rank, Refusal, Step};
+use std::ops::RangeInclusive;
 
-const FIRST: usize = Refusal::RankOutOfRange as usize;
-const LAST: usize = Refusal::UnreadRemain as usize;
+const GIVEN: RangeInclusive<Refusal> = Refusal::RankOutOfRange..=Refusal::UnreadRemain;
 
 /// Fields up to here are tried: all ranks and hosts, and some that are none.
 const FIELDS: u8 = 20;
@@ -40,34 +41,31 @@ fn established(seed: u64) -> Pass {
     pass
 }
 
-/// All steps but looks that the desk refuses, by their number.
-fn refused_steps(pass: &Pass) -> Vec<Vec<Step>> {
-    let mut by_number = vec![Vec::new(); LAST + 1];
-    for kind in Kind::ALL.into_iter().filter(|&kind| kind != Kind::Look) {
-        for first in 0..FIELDS {
-            for second in 0..FIELDS {
-                let step = Step::from_fields(kind, first, second, 500);
-                if let Err(refusal) = pass.desk.check(step) {
-                    by_number[usize::from(refusal.number())].push(step);
-                }
-            }
-        }
-    }
-    by_number.split_off(FIRST)
+/// All steps but looks, with the fields that are tried.
+fn tried() -> impl Iterator<Item = Step> {
+    let kinds = Kind::ALL.into_iter().filter(|&kind| kind != Kind::Look);
+    kinds.flat_map(|kind| {
+        (0..FIELDS).flat_map(move |first| {
+            (0..FIELDS).map(move |second| Step::from_fields(kind, first, second, 500))
+        })
+    })
 }
 
-/// The log of a seed with so many refused records, all numbers alike often.
+/// The steps that the desk refuses with this refusal.
+fn refused_with(pass: &Pass, refusal: Refusal) -> Vec<Step> {
+    let refused = tried().filter(|&step| pass.desk.check(step) == Err(refusal));
+    let steps: Vec<Step> = refused.collect();
+    assert!(!steps.is_empty(), "nothing gets {}", refusal.number());
+    steps
+}
+
+/// The log of a seed with so many refused records, all refusals alike often.
 pub fn refused_log(records: usize, seed: u64) -> Vec<u8> {
     let mut pass = established(seed);
-    let by_number = refused_steps(&pass);
+    let given = Refusal::ALL.into_iter().filter(|r| GIVEN.contains(r));
+    let refused: Vec<Vec<Step>> = given.map(|r| refused_with(&pass, r)).collect();
     for _ in 0..records {
-        let number = pass.bits.below(by_number.len() as u32) as usize;
-        let steps = &by_number[number];
-        assert!(
-            !steps.is_empty(),
-            "nothing is refused with {}",
-            FIRST + number
-        );
+        let steps = &refused[pass.bits.below(refused.len() as u32) as usize];
         let chosen = pass.bits.below(steps.len() as u32) as usize;
         steps[chosen].write(&mut pass.log);
     }
