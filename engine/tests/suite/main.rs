@@ -1,6 +1,6 @@
 //! The tests of the second engine, one module for each idea: paper 01's
 //! listing and edges, every refusal, soundness, order within pairs, and logs
-//! of any bytes and any length; paper 02's made-up passes.
+//! of any bytes and any length; paper 02's made-up passes and restarts.
 
 mod edges;
 mod listing;
@@ -16,6 +16,7 @@ mod printed_run;
 mod program;
 mod random_steps;
 mod refusals;
+mod restarts;
 #[path = "../shared/situations.rs"]
 mod situations;
 mod text;
