@@ -5,7 +5,7 @@
 use crate::bits::Bits;
 use crate::desk::Desk;
 use crate::mail::Mail;
-use crate::names::Rank;
+use crate::names::{Host, Rank};
 use crate::record::{Kind, Step};
 use crate::refusal::Refusal;
 
@@ -20,6 +20,9 @@ pub struct Mix {
     pub stray_one_in: u32,
     /// No rank is ended any more once so many are.
     pub most_ended: usize,
+    /// Starts and moves go to so many hosts, from 0 on; stray ones to any. The
+    /// fewer there are, the more moves go to the rank's present host.
+    pub hosts: usize,
 }
 
 impl Mix {
@@ -28,6 +31,7 @@ impl Mix {
         weights: [2, 16, 24, 60, 12, 6, 5, 24, 6, 4, 1, 4],
         stray_one_in: 12,
         most_ended: 5,
+        hosts: Host::COUNT,
     };
 
     /// Mostly sends and takes, with moves now and then.
@@ -35,7 +39,25 @@ impl Mix {
         weights: [2, 10, 15, 400, 260, 1, 6, 120, 6, 1, 0, 4],
         stray_one_in: 1_000,
         most_ended: 0,
+        hosts: Host::COUNT,
     };
+
+    /// Many ranks move at once between two hosts or restart on theirs, and
+    /// lines stand between them.
+    pub const RESTARTS: Mix = Mix {
+        weights: [8, 30, 40, 40, 12, 20, 5, 30, 12, 2, 0, 6],
+        stray_one_in: 30,
+        most_ended: 0,
+        hosts: 2,
+    };
+
+    /// Whether a step names no host but those that starts and moves go to.
+    fn has_host_of(&self, step: Step) -> bool {
+        match step {
+            Step::Start { h, .. } | Step::Move { h, .. } => h.index() < self.hosts,
+            _ => true,
+        }
+    }
 }
 
 /// A source of proposed steps.
@@ -117,6 +139,7 @@ impl Generator {
         (0..=u8::MAX)
             .map(|turn| offset.wrapping_add(turn.wrapping_mul(stride)))
             .map(|pair| Step::from_fields(kind, pair >> 4, pair & 15, value))
+            .filter(|&step| self.mix.has_host_of(step))
             .find(|&step| match desk.check(step) {
                 Ok(()) => true,
                 Err(refusal) => self.filling && refusal == Refusal::DeskFull,

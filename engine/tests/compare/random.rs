@@ -25,6 +25,7 @@ const MOVES: Mix = Mix {
     weights: [8, 30, 40, 40, 12, 10, 4, 24, 6, 2, 0, 6],
     stray_one_in: 30,
     most_ended: 0,
+    ..Mix::BROAD
 };
 
 /// The same, with many steps that come at the wrong time.
@@ -38,6 +39,7 @@ const ENDS: Mix = Mix {
     weights: [6, 20, 24, 10, 30, 3, 8, 16, 8, 12, 8, 4],
     stray_one_in: 20,
     most_ended: 14,
+    ..Mix::BROAD
 };
 
 /// Any step with fields mostly in range.
@@ -51,6 +53,7 @@ const FILLING: Mix = Mix {
     weights: [8, 40, 50, 900, 1, 6, 4, 8, 4, 1, 0, 4],
     stray_one_in: 40,
     most_ended: 0,
+    ..Mix::BROAD
 };
 
 /// Lengths from 1 record to some hundred; each mix gets all of them.
@@ -109,6 +112,13 @@ fn changed(log: &Log, bits: &mut Bits) -> [Log; 3] {
     })
 }
 
+/// The log, and all that it is spoiled to.
+pub fn with_spoiled(log: Log, bits: &mut Bits) -> Vec<Log> {
+    let mut logs: Vec<Log> = cut(&log).chain(changed(&log, bits)).collect();
+    logs.push(log);
+    logs
+}
+
 /// Logs that are long enough to fill a desk and empty it again.
 fn long_logs() -> impl Iterator<Item = Log> {
     (0..4 * MIXES.len()).map(|index| {
@@ -126,9 +136,7 @@ pub fn logs() -> Vec<Log> {
         let (mix_name, mix) = MIXES[index % MIXES.len()];
         let bytes = random_log(1 + index as u64, mix, records(index));
         let log = Log::new(format!("random-{index}-{mix_name}"), bytes, feed(index));
-        logs.extend(cut(&log));
-        logs.extend(changed(&log, &mut bits));
-        logs.push(log);
+        logs.extend(with_spoiled(log, &mut bits));
     }
     logs
 }

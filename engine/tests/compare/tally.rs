@@ -52,7 +52,7 @@ pub struct Tally {
     steps: u64,
     /// By number, 0 for accepted steps, and by kind.
     answers: [[u64; SORTS]; HIGHEST + 1],
-    situations: Situations,
+    pub situations: Situations,
 }
 
 impl Tally {
@@ -120,9 +120,9 @@ impl Tally {
 
     /// All counts, one a line.
     pub fn report(&self) -> String {
-        let rows = self.situations.rows();
+        let rows = self.situations.rows().into_iter();
         let lines = rows.map(|(situation, count)| format!("{situation}: {count}\n"));
-        self.answers_report() + &lines.concat()
+        self.answers_report() + &lines.collect::<String>()
     }
 
     /// Every kind is accepted, every number from 2 on but 18 is given, from 3

@@ -1,5 +1,10 @@
 //! How often a run came into the situations of paper 01 that are easy to get
-//! wrong: overlapping moves, lines that are notices, calls that miss, limits.
+//! wrong: overlapping moves, lines that are notices, calls that miss, limits;
+//! and into those of a restart.
+
+mod restarts;
+
+pub use restarts::Restarts;
 
 use engine::{Desk, Kind, Line, Rank, Refusal, Step, Values};
 
@@ -17,6 +22,7 @@ pub struct Situations {
     reroutes: u64,
     routes_to_ended: u64,
     refused_full: u64,
+    pub restarts: Restarts,
 }
 
 impl Situations {
@@ -26,7 +32,11 @@ impl Situations {
         let count = Rank::all().filter(|&rank| moving(rank)).count();
         self.two_moving += u64::from(count >= 2);
         self.four_moving += u64::from(count >= 4);
-        match (step, desk.check(step)) {
+        let checked = desk.check(step);
+        if checked.is_ok() {
+            self.restarts.note(desk, step);
+        }
+        match (step, checked) {
             (Step::Send { .. }, Err(Refusal::DeskFull)) => self.refused_full += 1,
             (Step::Send { a, b, .. }, Ok(())) => {
                 let notice = desk.line(a, b) == Line::Notice;
@@ -61,8 +71,8 @@ impl Situations {
     }
 
     /// All counts with what they are counts of.
-    pub fn rows(&self) -> [(&'static str, u64); 11] {
-        [
+    pub fn rows(&self) -> Vec<(&'static str, u64)> {
+        let rows = [
             ("steps while two or more ranks move", self.two_moving),
             ("steps while four or more ranks move", self.four_moving),
             (
@@ -80,6 +90,7 @@ impl Situations {
             ("routes that miss", self.reroutes),
             ("routes to an ended rank", self.routes_to_ended),
             ("sends to a full desk", self.refused_full),
-        ]
+        ];
+        [&rows[..], &self.restarts.rows()].concat()
     }
 }

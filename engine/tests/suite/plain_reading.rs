@@ -222,6 +222,11 @@ fn broad_lists_agree_with_the_plain_reading() {
     (11..14).for_each(|seed| compare(seed, Mix::BROAD, 8_000));
 }
 
+#[test]
+fn lists_with_restarts_agree_with_the_plain_reading() {
+    (31..34).for_each(|seed| compare(seed, Mix::RESTARTS, 8_000));
+}
+
 /// Mostly refused steps: the order of the checks matters most here.
 #[test]
 fn stray_lists_agree_with_the_plain_reading() {

@@ -6,7 +6,6 @@ use crate::situations::Situations;
 use engine::generate::{Generator, Mix};
 use engine::{broken_clauses, Desk, Kind, Rank, Snapshot, Step, Values};
 
-const SEEDS: std::ops::Range<u64> = 4..10;
 const STEPS: usize = 25_000;
 
 /// The values sent and taken, from the answers alone, for each ordered pair.
@@ -56,49 +55,67 @@ impl History {
     }
 }
 
-/// Every kind must be accepted often, and every situation come up.
-fn check_reached(accepted: &[u32; Kind::ALL.len()], situations: &Situations) {
-    for (kind, &count) in Kind::ALL.iter().zip(accepted) {
-        let least = match kind {
-            Kind::Start | Kind::End => 20,
-            _ => 1_000,
-        };
-        assert!(count >= least, "{kind:?} is accepted {count} times");
+/// What the lists come to.
+#[derive(Default)]
+struct Reached {
+    accepted: [u32; Kind::ALL.len()],
+    situations: Situations,
+}
+
+impl Reached {
+    /// Every kind must be accepted often, and every situation come up.
+    fn check(&self) {
+        let accepted = &self.accepted;
+        for (kind, &count) in Kind::ALL.iter().zip(accepted) {
+            let least = match kind {
+                Kind::Start | Kind::End => 20,
+                _ => 1_000,
+            };
+            assert!(count >= least, "{kind:?} is accepted {count} times");
+        }
+        assert!(accepted.iter().sum::<u32>() >= 100_000, "{accepted:?}");
+        for (situation, count) in self.situations.rows() {
+            assert!(count >= 50, "{situation}: {count}");
+        }
     }
-    assert!(accepted.iter().sum::<u32>() >= 100_000, "{accepted:?}");
-    for (situation, count) in situations.rows() {
-        assert!(count >= 50, "{situation}: {count}");
+}
+
+/// Checks a list step by step, and gives the desk that it leaves.
+fn run(seed: u64, mix: Mix, reached: &mut Reached) -> Desk {
+    let mut generator = Generator::new(seed, mix);
+    let mut desk = Desk::fresh();
+    let mut history = History::new();
+    let mut record = Vec::new();
+    for _ in 0..STEPS {
+        let step = generator.propose(&desk);
+        reached.situations.note_before(&desk, step);
+        record.clear();
+        step.write(&mut record);
+        let outcome = desk.step_sound(&record, 0);
+        assert_eq!(outcome.next, record.len() as u64);
+        if let Ok(values) = outcome.answer {
+            history.note(step, values);
+            reached.situations.note_after(step, values);
+            reached.accepted[step.fields().0 as usize - 1] += 1;
+        }
+        let state = desk.snapshot();
+        assert_eq!(broken_clauses(&state), [], "seed {seed} after {step:?}");
+        history.check_unread(&state);
     }
+    history.check_taken();
+    desk
 }
 
 #[test]
 fn random_steps_keep_soundness_and_order() {
-    let mut accepted = [0; Kind::ALL.len()];
-    let mut situations = Situations::default();
-    let mut record = Vec::new();
-    for seed in SEEDS {
-        let mut generator = Generator::new(seed, Mix::BROAD);
-        let mut desk = Desk::fresh();
-        let mut history = History::new();
-        for _ in 0..STEPS {
-            let step = generator.propose(&desk);
-            situations.note_before(&desk, step);
-            record.clear();
-            step.write(&mut record);
-            let outcome = desk.step_sound(&record, 0);
-            assert_eq!(outcome.next, record.len() as u64);
-            if let Ok(values) = outcome.answer {
-                history.note(step, values);
-                situations.note_after(step, values);
-                accepted[step.fields().0 as usize - 1] += 1;
-            }
-            let state = desk.snapshot();
-            assert_eq!(broken_clauses(&state), [], "seed {seed} after {step:?}");
-            history.check_unread(&state);
-        }
-        history.check_taken();
+    let mut reached = Reached::default();
+    for seed in 4..10 {
+        let desk = run(seed, Mix::BROAD, &mut reached);
         let ended = Rank::all().filter(|&rank| desk.standing(rank).is_ended());
         assert!(ended.count() >= 3, "seed {seed}");
     }
-    check_reached(&accepted, &situations);
+    for seed in 10..12 {
+        run(seed, Mix::RESTARTS, &mut reached);
+    }
+    reached.check();
 }
