@@ -94,6 +94,18 @@ fn exhausted() -> Vec<u8> {
     log
 }
 
+/// Rank 0 restarts until all numbers of host 0 are drawn. Then nobody starts,
+/// restarts or comes there any more, and rank 0 moves elsewhere.
+fn exhausted_by_restarts() -> Vec<u8> {
+    [
+        log_of("start 0 0"),
+        log_of("move 0 0, land 0").repeat(65_534),
+        log_of("move 0 0, land 0, start 1 0, start 1 1, move 1 0, move 1 1, land 1"),
+        log_of("move 0 1, land 0, move 0 0, move 0 1, land 0"),
+    ]
+    .concat()
+}
+
 fn values() -> Vec<u8> {
     let values = [0, 1, 255, 256, 0x7FFF_FFFF, 0x8000_0000, 0xFFFF_FFFF_u32];
     let sends: String = values.map(|value| format!(", send 0 1 {value}")).concat();
@@ -109,6 +121,7 @@ fn values() -> Vec<u8> {
 pub fn logs() -> Vec<Log> {
     vec![
         Log::new("numbers-exhausted", exhausted(), Feed::File),
+        Log::new("restarts-exhausted", exhausted_by_restarts(), Feed::File),
         Log::new("full-pair", full_pair(), Feed::Pipe),
         Log::new("full-mover", full_mover(), Feed::Pipe),
         Log::new("full-crowd", full_crowd(), Feed::Pipe),
