@@ -20,6 +20,15 @@ pub enum Feed {
 }
 
 impl Feed {
+    /// The feed of one of many logs: mostly at once or from a file.
+    pub fn in_turn(index: usize) -> Feed {
+        match index % 64 {
+            0 => Feed::Uneven,
+            odd if odd % 2 == 1 => Feed::File,
+            _ => Feed::Pipe,
+        }
+    }
+
     /// The lengths of the pieces in which a log comes through a pipe, in turn;
     /// none where it comes from a file.
     pub fn pieces(self, log: &[u8]) -> Option<Vec<usize>> {

@@ -22,14 +22,6 @@ fn seeds() -> impl Iterator<Item = u32> {
     (1..=LOW_SEEDS).chain(NAMED_SEEDS).chain(spread)
 }
 
-fn feed(index: usize) -> Feed {
-    match index % 64 {
-        0 => Feed::Uneven,
-        odd if odd % 2 == 1 => Feed::File,
-        _ => Feed::Pipe,
-    }
-}
-
 type Spoil = fn(&[u8], &mut Bits) -> Vec<u8>;
 
 /// What each pass is compared as besides as it is.
@@ -89,9 +81,10 @@ pub fn logs() -> Vec<Log> {
         for (how, spoil) in SPOILED {
             let bytes = spoil(&pass, &mut bits);
             let name = format!("made-up-{seed}-{how}");
-            logs.push(Log::new(name, bytes, feed(index)));
+            logs.push(Log::new(name, bytes, Feed::in_turn(index)));
         }
-        logs.push(Log::new(format!("made-up-{seed}"), pass, feed(index)));
+        let name = format!("made-up-{seed}");
+        logs.push(Log::new(name, pass, Feed::in_turn(index)));
     }
     logs
 }

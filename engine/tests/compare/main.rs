@@ -20,6 +20,7 @@ mod program;
 #[path = "../shared/proved_program.rs"]
 mod proved_program;
 mod random;
+mod restarts;
 mod short_records;
 #[path = "../shared/situations.rs"]
 mod situations;

@@ -18,7 +18,7 @@ fn all_steps() -> impl Iterator<Item = Step> {
 }
 
 /// Tries on a log's desk all steps that it refuses.
-fn append_refused(log: &mut Vec<u8>) {
+pub fn append_refused(log: &mut Vec<u8>) {
     let desk = desk_after(log);
     for step in all_steps().filter(|&step| desk.check(step).is_err()) {
         step.write(log);
