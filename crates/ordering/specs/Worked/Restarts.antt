@@ -43,8 +43,8 @@ pub both-are-open : result (readings (take 9 (overlapping 0 0 0 0))) ≡ both-op
 unfolding computed
 both-are-open = ap brief (from-fresh (readings (take 9 (overlapping 0 0 0 0))))
 
--- One rank restarts twice. Rank 1 runs on host 1. A message is on the lane to it at its first restart, and one follows on the notice. Rank 0
--- finds it again by a route, and a third message is on the lane at the second restart; a fourth goes to the arrival.
+-- One rank restarts twice: rank 1, which runs on host 1. A message is on the lane to it at its first restart, and one follows on the
+-- notice. A third is on the lane at its second restart, when the first two are in its list, and a fourth goes to the arrival.
 abbrev twice : List Entry
 twice =
     did (Start (rank 0) 0) 0 ∷

@@ -1,19 +1,19 @@
 -- A list from the fresh state that leaves a move open, computed from the definitions. Assumes nothing.
 use mathlib.Core.Path.{_≡_, refl, ap}
-use mathlib.Core.Bool.{true, false, not}
+use mathlib.Core.Bool.{false, not}
 use mathlib.Core.List.{List, [], _∷_, map}
 use lib.ListN.{getD, replicate}
-use Rattle.transit.specs.declared.Place.the-variants.{SourceChannel, EndList}
+use Rattle.transit.specs.declared.Place.the-variants.{SourceChannel}
 use Rattle.broker.specs.Kind
 use Rattle.broker.specs.Names.{vmid, isMigrating}
 use Rattle.transit.specs.Message.{rank}
 use Rattle.broker.specs.Ranks.{everyRank}
 use Rattle.broker.specs.State.{idle, fresh}
 use Rattle.broker.specs.declared.process.Status.the-variants.{Running, Migrating}
-use Rattle.broker.specs.declared.record.Record.the-variants.{Start, Call, Route, Send, Take, Move, Drain, Land, Part}
-use Rattle.ordering.specs.Worked.Account.{Account, computed, from-fresh}
-use Rattle.ordering.specs.Claim.{Reading, Entry, after, everyAccepted, noMoveOpen, SecondList}
-use Rattle.ordering.specs.Worked.Result.{Result, brief, result, Balance, balance, second, whole, did, process}
+use Rattle.broker.specs.declared.record.Record.the-variants.{Start, Call, Route, Send, Take, Move}
+use Rattle.ordering.specs.Worked.Account.{computed, from-fresh}
+use Rattle.ordering.specs.Claim.{Reading, Entry, after, noMoveOpen}
+use Rattle.ordering.specs.Worked.Result.{Result, brief, result, Balance, balance, whole, did, process}
 
 -- A list that leaves a move open: rank 1 moves when it has taken one of two messages, and a third follows it on the lane to its mover. An
 -- unknown kind, an empty log, a take of nothing and a landing too early are refused on the way.

@@ -7,7 +7,7 @@ use engine::{Host, Rank, Step, Values};
 /// What to say of a step and its values, with the moves that were open before
 /// it: a sentence or two, a line each.
 pub fn sentences(step: Step, values: Values, moves: &OpenMoves) -> String {
-    let [v1, v2, v3] = values;
+    let [v1, v2, _] = values;
     match step {
         Step::Start { r, h } => start(r, h, v1, v2),
         Step::Call { a, b } => call(a, b, v1, v2),
