@@ -17,25 +17,17 @@ use Rattle.printout.specs.Wholes.{wholes}
 use Rattle.printout.specs.declared.piece.Stop.{Stop}
 use Rattle.printout.specs.declared.piece.Stop.the-variants.{PageFull, KindUnknown, RecordCut}
 
--- so many whole records of a piece are run from a state: the state, the position and the answers are those of the definition, the state
--- is sound, and the text has the answers' lines
-pub record Ran (s : State) (piece : List ℕ) (base steps : ℕ) (state : State) (at : ℕ) (text : List ℕ) : Type 0 where
-  pub answers : List Answered
+-- so many whole records of a piece are run from a state: the state, the position and the answers are those of the definition, and the
+-- state is sound
+pub record Ran (s : State) (piece : List ℕ) (base steps : ℕ) (state : State) (at : ℕ) (answers : List Answered) : Type 0 where
   pub came : _≡_ {A = Came} (record { state = state; at = at; answers = answers }) (wholes nameFor base steps s piece 0)
   pub counted : length answers ≡ steps
   pub stays : sound state ≡ true
-  pub shown : text ≡ linesOf answers
 
 -- Paper 02, change 2: "no input meets it", of the steps of a run
 abbrev pub NeverEighteenIn : List Answered → Type 0
 NeverEighteenIn [] = Unit {0}
 NeverEighteenIn (a ∷ rest) = NeverEighteen (a .answer) × NeverEighteenIn rest
-
--- a text has the lines of some steps, and nothing else
-pub record Lines (text : List ℕ) : Type 0 where
-  pub answers : List Answered
-  pub shown : text ≡ linesOf answers
-  pub never-eighteen : NeverEighteenIn answers
 
 -- why it stops: the page has no room for another line, or no whole record stands there
 abbrev pub Stops : Stop → List ℕ → ℕ → ℕ → ℕ → Type 0
@@ -43,11 +35,13 @@ Stops PageFull piece at used room = room < used + recordRoom
 Stops KindUnknown piece at used room = decode piece at ≡ Unknown
 Stops RecordCut piece at used room = decode piece at ≡ Cut
 
--- some whole records of a piece are run, and a page of so many bytes shows lines of steps; where the state was sound, they are those of the
--- definition
+-- some whole records of a piece are run, and a page of so many bytes shows the lines of their answers; where the state was sound, the
+-- answers are those of the definition
 pub record RanSome (s : State) (piece : List ℕ) (base room : ℕ) (state : State) (at used steps : ℕ) (page : List ℕ) : Type 0 where
-  pub ran : sound s ≡ true → Ran s piece base steps state at (take used page)
-  pub lines : Lines (take used page)
+  pub answers : List Answered
+  pub shown : take used page ≡ linesOf answers
+  pub never-eighteen : NeverEighteenIn answers
+  pub ran : sound s ≡ true → Ran s piece base steps state at answers
   pub inside : at ≤ length piece
   pub fits : used ≤ length page
   pub keeps : length page ≡ room

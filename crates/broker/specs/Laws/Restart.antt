@@ -1,12 +1,12 @@
 -- A restart, which is a move of a rank to the host where it runs: it is accepted like any other move and draws a number; and no answer has
 -- the number 18. Paper 02, change 2. Assumes nothing.
-use mathlib.Core.Bool.{true, false, _&&_}
+use mathlib.Core.Bool.{true, false, _&&_, and-false}
 use mathlib.Core.List.{List}
 use mathlib.Core.Option.{none}
 use mathlib.Core.Path.{_≡_, refl}
 use Prim.Native.Nat.{ℕ, _+_, _<_}
 use native.Mathlib.Omega.{arith}
-use borrow.Author.Tests.{eqb-false, lt-ltb, lt-leb, ltb-true}
+use borrow.Author.Tests.{eqb-false, ne-eqb, lt-ltb, lt-leb, ltb-true}
 use lib.Dec.{eqb, ltb}
 use Rattle.base.specs.Laws.Tests.{both-left}
 use Rattle.transit.specs.Message.{ranks}
@@ -19,10 +19,10 @@ use Rattle.broker.specs.Laws.Opened.{openedChecks}
 use Rattle.broker.specs.Laws.Sound.{facts}
 use Rattle.broker.specs.Laws.Step.{carried, step-accepted}
 use Rattle.broker.specs.Migrate.{move}
-use Rattle.broker.specs.Names.{hosts, numbers, isOpenRequest}
+use Rattle.broker.specs.Names.{hosts, numbers, sameVmid, isOpenRequest}
 use Rattle.broker.specs.Record.{decode}
 use Rattle.broker.specs.Sound.{sound, isDrawn}
-use Rattle.broker.specs.State.{State, status, request, drawnOn}
+use Rattle.broker.specs.State.{State, status, request, drawnOn, nextVmid}
 use Rattle.broker.specs.Step.{apply, step}
 use Rattle.broker.specs.declared.answer.Answer.{Answer}
 use Rattle.broker.specs.declared.answer.Answer.the-variants.{Accepted, Refused}
@@ -105,6 +105,10 @@ module _ (s : State) (r : Rank) (v : Vmid) (ok : sound s ≡ true) (in-range : r
   -- "draws a number": it is above the one that the rank runs with.
   pub restart-draws : v .1 < drawnOn s (v .0) + 1
   restart-draws = omega (arith, drawn-number s v its-own)
+
+  -- So the old process and the new one are told apart.
+  pub restart-apart : sameVmid v (nextVmid s (v .0)) ≡ false
+  restart-apart = rw (ne-eqb (v .1) (drawnOn s (v .0) + 1) (λ e. omega (arith, restart-draws))) (and-false (eqb (v .0) (v .0)))
 
   -- with no call open, and with a number left on its host
   module _ (idle : isOpenRequest (request s r) ≡ false) (room : drawnOn s (v .0) < numbers) where

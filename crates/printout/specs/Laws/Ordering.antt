@@ -79,8 +79,8 @@ module _ (named : Naming) where
       run-ordered (length log) log _ (ap (λ (c : Came). c .state) (sym (run-in-pieces named ts fresh fresh-sound)))
 
 -- They hold of what a run of some whole records of a log leaves, and so of runs in a row (`ran-on`).
-pub ran-ordered : {log : List ℕ} {steps : ℕ} {state : State} {at : ℕ} {text : List ℕ} → Ran fresh log 0 steps state at text →
-    Ordered nameFor steps log state
+pub ran-ordered : {log : List ℕ} {steps : ℕ} {state : State} {at : ℕ} {answers : List Answered} →
+    Ran fresh log 0 steps state at answers → Ordered nameFor steps log state
 ran-ordered {log} {steps} i = rw (← i .came) at (wholes-ordered nameFor steps log)
 
 -- They hold of what `run_piece` leaves of a first piece.

@@ -22,49 +22,34 @@ use Rattle.printout.specs.Laws.Steps.{settled-sound}
 use Rattle.printout.specs.Laws.Text.{lines-append}
 use Rattle.printout.specs.Laws.Wholes.{one-last, run-within, in-a-row, wholes-dropped}
 use Rattle.printout.specs.Laws.Window.{stands}
-use Rattle.printout.specs.Ran.{NeverEighteenIn, Lines, Ran, RanSome}
+use Rattle.printout.specs.Ran.{NeverEighteenIn, Ran, RanSome}
 use Rattle.printout.specs.Run.{Answered}
 use Rattle.printout.specs.Wholes.{answeredAt, settled, wholes}
 
 -- One whole record more is run.
-ran-more : {s : State} {piece : List ℕ} {base steps : ℕ} {state : State} {at : ℕ} {text : List ℕ} → Ran s piece base steps state at text →
-    (r : Record) (next : ℕ) → decode piece at ≡ Whole r next → let x = settled nameFor state r in
-    Ran s piece base (suc steps) (x .state) next (text ++ recordLine (base + at) (getD piece at 0) (x .answer))
-ran-more {s} {piece} {base} {steps} {state} {at} i r next e =
-    let last = answeredAt base piece at (settled nameFor state r .answer) ∷ [] in
+ran-more : {s : State} {piece : List ℕ} {base steps : ℕ} {state : State} {at : ℕ} {answers : List Answered} →
+    Ran s piece base steps state at answers → (r : Record) (next : ℕ) → decode piece at ≡ Whole r next → let x = settled nameFor state r in
+    Ran s piece base (suc steps) (x .state) next (answers ++ answeredAt base piece at (x .answer) ∷ [])
+ran-more {s} {piece} {base} {steps} {state} {at} {answers} i r next e =
     let more = rw (← i .came) at (one-last nameFor base piece steps s 0 r next) in
     record {
-      answers = i .answers ++ last;
       came = sym (more e);
-      counted = length-append (i .answers) last ∙ omega (arith, i .counted);
+      counted = length-append answers _ ∙ omega (arith, i .counted);
       stays = settled-sound nameFor state piece at (i .stays) r next e;
-      shown = rw (i .shown, lines-append (i .answers), append-nil);
-    }
-
--- No step has the number 18.
-never-in : (answers : List Answered) → NeverEighteenIn answers
-never-in [] = tt
-never-in (a ∷ rest) = (never-eighteen (a .answer), never-in rest)
-
--- The line of one step more.
-line-more : {text : List ℕ} → Lines text → (a : Answered) → Lines (text ++ recordLine (a .at) (a .kind) (a .answer))
-line-more i a =
-    record {
-      answers = i .answers ++ a ∷ [];
-      shown = rw (i .shown, lines-append (i .answers), append-nil);
-      never-eighteen = never-in (i .answers ++ a ∷ []);
     }
 
 -- Before the first record nothing is run, and nothing is on the page.
 ran-none : (s : State) (piece : List ℕ) (base : ℕ) → sound s ≡ true → Ran s piece base 0 s 0 []
 unfolding wholes
-ran-none s piece base ok = record { answers = []; came = refl; counted = refl; stays = ok; shown = refl }
+ran-none s piece base ok = record { came = refl; counted = refl; stays = ok }
 
 pub some-none : (s : State) (piece : List ℕ) (base : ℕ) (page : List ℕ) → RanSome s piece base (length page) s 0 0 0 page
 some-none s piece base page =
     record {
+      answers = [];
+      shown = refl;
+      never-eighteen = tt;
       ran = ran-none s piece base;
-      lines = record { answers = []; shown = refl; never-eighteen = tt };
       inside = omega arith;
       fits = omega arith;
       keeps = refl;
@@ -72,17 +57,25 @@ some-none s piece base page =
       moved = omega arith;
     }
 
+-- No answer has the number 18.
+never-in : (answers : List Answered) → NeverEighteenIn answers
+never-in [] = tt
+never-in (a ∷ rest) = (never-eighteen (a .answer), never-in rest)
+
 -- A whole record more is run where the page has room for its line.
 pub some-more : {s : State} {piece : List ℕ} {base room : ℕ} {state : State} {at used steps : ℕ} {page : List ℕ} →
     RanSome s piece base room state at used steps page → (r : Record) (next : ℕ) → decode piece at ≡ Whole r next → (x : Settlement) →
     (sound state ≡ true → x ≡ settled nameFor state r) → (after : List ℕ) (end : ℕ) →
     Put recordRoom page used (recordLine (base + at) (getD piece at 0) (x .answer)) after end → used + recordRoom ≤ length page →
     RanSome s piece base room (x .state) next end (suc steps) after
-some-more {piece = piece} {at = at} i r next e x f after end p h =
+some-more {piece = piece} {base} {at = at} i r next e x f after end p h =
     let there = stands piece at e in
+    let last = answeredAt base piece at (x .answer) ∷ [] in
     record {
-      ran = λ ok. let before = i .ran ok in rw (shows p h, f (before .stays)) (ran-more before r next e);
-      lines = rw (shows p h) (line-more (i .lines) (answeredAt _ piece at (x .answer)));
+      answers = i .answers ++ last;
+      shown = rw (shows p h, i .shown, lines-append (i .answers), append-nil);
+      never-eighteen = never-in (i .answers ++ last);
+      ran = λ ok. let before = i .ran ok in rw (f (before .stays)) (ran-more before r next e);
       inside = there .fits;
       fits = omega (arith, p .within, p .room);
       keeps = p .room ∙ i .keeps;
@@ -91,18 +84,16 @@ some-more {piece = piece} {at = at} i r next e x f after end p h =
     }
 
 -- What was run of a piece, and then of what is left of it with what follows, was run of both.
-pub ran-on : {s : State} {piece : List ℕ} {base steps : ℕ} {state : State} {at : ℕ} {text : List ℕ} →
-    Ran s piece base steps state at text → (more : List ℕ) {steps' : ℕ} {state' : State} {at' : ℕ} {text' : List ℕ} →
-    Ran state (drop at piece ++ more) (base + at) steps' state' at' text' →
-    Ran s (piece ++ more) base (steps + steps') state' (at + at') (text ++ text')
-ran-on {s} {piece} {base} {steps} {state} {at} i more {steps'} j =
+pub ran-on : {s : State} {piece : List ℕ} {base steps : ℕ} {state : State} {at : ℕ} {answers : List Answered} →
+    Ran s piece base steps state at answers → (more : List ℕ) {steps' : ℕ} {state' : State} {at' : ℕ} {answers' : List Answered} →
+    Ran state (drop at piece ++ more) (base + at) steps' state' at' answers' →
+    Ran s (piece ++ more) base (steps + steps') state' (at + at') (answers ++ answers')
+ran-on {s} {piece} {base} {steps} {state} {at} {answers} i more {steps'} {answers' = answers'} j =
     let room : at ≤ length piece = rw (← i .came) at (run-within nameFor base piece steps s 0 (omega arith)) in
     let first = rw (← i .came, i .counted) at (in-a-row nameFor base piece more steps' steps s 0) in
     let later = wholes-dropped nameFor base (piece ++ more) at (omega (arith, length-append piece more)) steps' state 0 in
     record {
-      answers = i .answers ++ j .answers;
       came = sym (first ∙ rw (rw (add-zero at, drop-append-le at piece more room) at later, ← j .came));
-      counted = length-append (i .answers) (j .answers) ∙ omega (arith, i .counted, j .counted);
+      counted = length-append answers answers' ∙ omega (arith, i .counted, j .counted);
       stays = j .stays;
-      shown = rw (i .shown, j .shown, lines-append);
     }

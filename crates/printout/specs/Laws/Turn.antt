@@ -28,6 +28,7 @@ use Rattle.printout.specs.Laws.Window.{Seen, seen, moved, decode-dropped
 use Rattle.printout.specs.Laws.Window.Seen.{seen-cut, seen-end}
 use Rattle.printout.specs.Printed.{linesOf, lastLines, textOf}
 use Rattle.printout.specs.Ran.{Ran, RanSome, Stops}
+use Rattle.printout.specs.Run.{Answered}
 use Rattle.printout.specs.Turn.{farthest, longest, nextOf, MayFollow, leftBehind, Because, Turns}
 use Rattle.printout.specs.Wholes.{isWhole, closing, left}
 use Rattle.printout.specs.declared.piece.Stop.{Stop}
@@ -56,12 +57,13 @@ unmoved k (Whole r next) same none = cc (ap isWhole same)
 unmoved k Unknown same none = same
 unmoved k Cut same none = same
 
--- What was left to print, whatever follows a piece, is what the page shows of it and what is left then.
+-- What was left to print, whatever follows a piece, is the lines of its answers and what is left then.
 piece-shows :
-    {s : State} {piece : List ℕ} {base steps : ℕ} {state : State} {at : ℕ} {text : List ℕ} → Ran s piece base steps state at text →
-    (more : List ℕ) → left nameFor base s (piece ++ more) ≡ text ++ left nameFor (base + at) state (drop at piece ++ more)
+    {s : State} {piece : List ℕ} {base steps : ℕ} {state : State} {at : ℕ} {answers : List Answered} →
+    Ran s piece base steps state at answers →
+    (more : List ℕ) → left nameFor base s (piece ++ more) ≡ linesOf answers ++ left nameFor (base + at) state (drop at piece ++ more)
 piece-shows {s} {piece} {base} {steps} ran more =
-    ap textOf (rw (← ran .came) at (piece-first nameFor base steps s piece more)) ∙ rw (text-behind, ran .shown)
+    ap textOf (rw (← ran .came) at (piece-first nameFor base steps s piece more)) ∙ rw text-behind
 
 -- Behind a piece whose rest goes to the buffer's front, on a page that has room for the end of a run.
 module _
@@ -78,7 +80,7 @@ module _
     -- what was left to print, whatever follows
     was-left : sound s ≡ true → (more : List ℕ) →
         left nameFor base s (take held buffer ++ more) ≡ take used page ++ left nameFor (base + at) state (take k buffer' ++ more)
-    was-left ok more = rw (rest .holds) (piece-shows (ran .ran ok) more)
+    was-left ok more = rw (rest .holds, ran .shown) (piece-shows (ran .ran ok) more)
 
     -- Whatever is next, nothing that was held is lost or moved.
     turns :

@@ -81,15 +81,16 @@ impl OpenMoves {
 mod tests {
     use super::{End, OpenMoves};
     use engine::generate::{random_log, Mix};
-    use engine::{Desk, Line, Step};
+    use engine::{Desk, Line, Step, Vmid};
 
-    /// Along random runs it tells from moves, landings and routes alone what
-    /// the desk tells from its lines.
+    /// Along random runs it tells from starts, moves, landings and routes alone
+    /// what the desk tells from its lines and standings.
     #[test]
-    fn sends_are_told_by_the_end_that_they_reach() {
+    fn sends_and_moves_are_told_as_the_desk_has_them() {
         let log = random_log(5, Mix::BROAD, 100_000);
         let (mut desk, mut moves) = (Desk::fresh(), OpenMoves::default());
         let mut seen = [0; 3];
+        let mut restarts = [0; 2];
         let mut rest = &log[..];
         while let Ok((step, length)) = Step::read(rest) {
             if let (Step::Send { a, b, .. }, Ok(())) = (step, desk.check(step)) {
@@ -101,11 +102,17 @@ mod tests {
                 assert_eq!(moves.end_reached(a, b), expected);
                 seen[expected as usize] += 1;
             }
+            if let (Step::Move { r, h }, Ok(())) = (step, desk.check(step)) {
+                let present = desk.standing(r).current_end().map(Vmid::host) == Some(h);
+                assert_eq!(moves.is_present_host(r, u32::from(h.0)), present);
+                restarts[usize::from(present)] += 1;
+            }
             if let Ok(values) = desk.step_sound(rest, 0).answer {
                 moves.follow(step, values);
             }
             rest = &rest[length..];
         }
         assert!(seen.iter().all(|&count| count > 100), "{seen:?}");
+        assert!(restarts.iter().all(|&count| count > 100), "{restarts:?}");
     }
 }
