@@ -1,10 +1,10 @@
--- What the claim counts: which steps are accepted, which values are sent, taken and unread from one rank to another, where a move is open,
--- and which logs are bytes. Computed from the definitions. Assumes nothing.
+-- What the claim counts: what is read of a written record, which steps are accepted, which values are sent, taken and unread from one rank
+-- to another, where a move is open, and which logs are bytes. Computed from the definitions. Assumes nothing.
 use mathlib.Core.Path.{_≡_, refl, ap}
 use mathlib.Core.Bool.{true, false}
 use mathlib.Core.List.{List, [], _∷_, _++_, map}
 use Prim.Native.Nat.{ℕ}
-use lib.ListN.{replicate}
+use lib.ListN.{length, replicate}
 use Rattle.transit.specs.Message.{rank}
 use Rattle.transit.specs.Unread.{counted}
 use Rattle.transit.specs.declared.Message.{Message}
@@ -13,11 +13,13 @@ use Rattle.transit.specs.declared.Place.the-variants.{SourceList, SourceChannel
 use Rattle.broker.specs.Kind
 use Rattle.broker.specs.Names.{vmid}
 use Rattle.broker.specs.Ranks.{everyRank}
+use Rattle.broker.specs.Record.{decode}
 use Rattle.broker.specs.State.{State, idle, fresh, withStatus, withUnread}
 use Rattle.broker.specs.declared.answer.Answer.the-variants.{Accepted, Refused}
 use Rattle.broker.specs.declared.answer.Refusal.the-variants.{NotConnected}
 use Rattle.broker.specs.declared.process.Status.the-variants.{Running, Migrating, Ended}
 use Rattle.broker.specs.declared.record.Decoded.the-variants.{Whole, Unknown, Cut}
+use Rattle.broker.specs.declared.record.Record.{Record}
 use Rattle.broker.specs.declared.record.Record.the-variants.{Start, Call, Route, Send, Take, Look}
 use Rattle.ordering.specs.Claim.{
   Reading,
@@ -33,8 +35,15 @@ use Rattle.ordering.specs.Claim.{
   areBytes,
 }
 use Rattle.ordering.specs.Worked.Account.{Account, computed, from-fresh}
-use Rattle.ordering.specs.Worked.Result.{Result, brief, result, Balance, balance, whole, did, process}
+use Rattle.ordering.specs.Worked.Result.{Result, brief, result, Balance, balance, whole, did, process, written}
 use Rattle.ordering.specs.Worked.Unbroken.{everyKind, everyEntry}
+
+-- Written records.
+
+pub record-of-every-kind-is-read-as-written :
+    map (λ (r : Record). decode (written r) 0) everyKind ≡ map (λ (r : Record). Whole r (length (written r))) everyKind
+unfolding decode
+record-of-every-kind-is-read-as-written = refl
 
 -- Accepted steps.
 
