@@ -1,5 +1,8 @@
 // The answer to a step. Paper 01, "Where each step is checked".
+ghost use mathlib.Core.Bool.{cond};
 ghost use mathlib.Core.Path.{_≡_};
+ghost use Prim.Native.Nat.{_+_, _<_};
+ghost use lib.Dec.{ltb};
 ghost use Rattle.broker.specs.Answer.{refusalNumber, number, values, listed};
 
 // Why a step is refused: the rows of the table of checks, numbers 1 to 17 and 19 to 25 in this order.
@@ -39,9 +42,9 @@ pub enum Answer {
 pub struct Values(pub u32, pub u32, pub u32);
 
 impl Refusal {
-    // The number of the table of checks.
-    pub fn number(self) -> u8
-        ensures { λ r. ⌜ r ≡ refusalNumber self ⌝ }
+    // Its row in the table of checks, counted from 1 with 18 left out: up to there it is the number.
+    fn row(self) -> u8
+        ensures { λ r. ⌜ (cond (ltb r 18) r (r + 1) ≡ refusalNumber self) × (r < 25) ⌝ }
     {
         match self {
             Refusal::Unsound => 1,
@@ -61,14 +64,25 @@ impl Refusal {
             Refusal::NotConnected => 15,
             Refusal::PeerMigrating => 16,
             Refusal::NoNotice => 17,
-            Refusal::BacklogLeft => 19,
-            Refusal::NoBacklog => 20,
-            Refusal::NothingToDrain => 21,
-            Refusal::NothingUnread => 22,
-            Refusal::UnreadLeft => 23,
-            Refusal::Full => 24,
-            Refusal::NumbersSpent => 25,
+            Refusal::BacklogLeft => 18,
+            Refusal::NoBacklog => 19,
+            Refusal::NothingToDrain => 20,
+            Refusal::NothingUnread => 21,
+            Refusal::UnreadLeft => 22,
+            Refusal::Full => 23,
+            Refusal::NumbersSpent => 24,
         }
+    }
+
+    // The number of the table of checks.
+    pub fn number(self) -> u8
+        ensures { λ r. ⌜ r ≡ refusalNumber self ⌝ }
+    {
+        let row = self.row();
+        if row < 18 {
+            return row;
+        }
+        row + 1
     }
 }
 
