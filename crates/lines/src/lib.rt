@@ -14,27 +14,23 @@ use page::put_four_numbers;
 use page::put_hex;
 use page::put_two_numbers;
 
-// Position, kind, number, v1, v2, v3.
+// Position, kind, number, v1, v2, v3. A run calls it at one place, so that it is compiled into its loop.
 pub fn record_line(page: &mut [u8], used: usize, position: u64, kind: u8, answer: Answer) -> usize
     requires { ⌜ used + recordRoom ≤ length (now page) ⌝ }
     ensures { λ r. ⌜ Put recordRoom (now (page .entry)) used (recordLine position kind answer) (now (page .exit)) r ⌝ }
 {
-    let number = answer.number();
-    let values = answer.values();
-    let mut at = put_decimal(page, used, position);
-    at = put_hex(page, at, kind);
-    at = put_four_numbers(
-        page,
-        at,
-        number as u64,
-        values.0 as u64,
-        values.1 as u64,
-        values.2 as u64,
-    );
-    put_byte(page, at, b'\n')
+    match answer {
+        Answer::Accepted(v1, v2, v3) => {
+            let mut at = put_decimal(page, used, position);
+            at = put_hex(page, at, kind);
+            at = put_four_numbers(page, at, 0, v1 as u64, v2 as u64, v3 as u64);
+            put_byte(page, at, b'\n')
+        }
+        Answer::Refused(why) => refused_line(page, used, position, kind, why),
+    }
 }
 
-// The same where a run ends: a refusal has no values. A run calls `record_line` at one place, so that it is compiled into its loop.
+// The same of a refusal, which has no values.
 pub fn refused_line(page: &mut [u8], used: usize, position: u64, kind: u8, why: Refusal) -> usize
     requires { ⌜ used + recordRoom ≤ length (now page) ⌝ }
     ensures { λ r. ⌜ Put recordRoom (now (page .entry)) used (recordLine position kind (Refused why)) (now (page .exit)) r ⌝ }
