@@ -1,4 +1,4 @@
--- `broker::answer::Refusal::number` meets its contract: up to 17 the row is the number, and from there on it is one higher. Assumes nothing.
+-- `broker::answer::Refusal::number` meets its contract: up to 17 the row is the number, and from there on one less. Assumes nothing.
 use borrow.Author.Needs.{needs}
 use borrow.Author.Tests.{lt-ltb, le-ltb}
 use Rattle.broker.proofs.answer.Refusal.number.Statement.{statement}
