@@ -37,8 +37,10 @@ returns-2 c =
     let passed = not-false _ (test .if1 .left) in
     let stepped =
     stepped-in-place (view (args .broker)) (sym (loaded .load .ensures .tells) ∙ passed) (loaded .load .ensures .holds passed)
-    (step .step-in-place .ensures .0) in
-    (refused-step (view (args .broker)) (args .log .now) (args .at) _ _ (c .enum-told .given .1) stepped, (λ n e. refl, never-eighteen _))
+    (step .step-in-place .ensures .0) in (
+      refused-step (view (args .broker)) (args .log .now) (args .at) _ _ (c .enum-told .given .1) stepped,
+      (λ n e. refl, step .step-in-place .ensures .1),
+    )
 
 returns-3 : tie.Need-returns-3
 returns-3 c =
@@ -53,7 +55,10 @@ returns-3 c =
     (step .step-in-place .ensures .0) in (
       subst (λ (s : State). Stepped (view (args .broker)) (args .log .now) (args .at) (replied (step .step-in-place .result) s))
           (sym (c .unload .ensures)) stepped,
-      (accepted-is-no-refusal (step .step-in-place .result .answer) _ _ _ _ _ (told .enum-told2 .given .1), never-eighteen _),
+      (
+        accepted-is-no-refusal (step .step-in-place .result .answer) _ _ _ _ _ (told .enum-told2 .given .1),
+        step .step-in-place .ensures .1,
+      ),
     )
 
 pub step-spec : {M : Type 1} → statement M
