@@ -5,6 +5,7 @@ ghost use Rattle.transit.specs.Mail.{Mail, messagesIn, Appended, Roomy};
 ghost use Rattle.transit.specs.Message.{ranks};
 ghost use Rattle.transit.specs.Unread.{limit};
 use crate::Contents;
+use crate::Count;
 use crate::Message;
 use crate::Slots;
 use crate::layout::NONE;
@@ -27,7 +28,7 @@ fn make_room(slots: &mut Slots, contents: &mut Contents)
 }
 
 // The message is unread, behind all others; how many of its pair are unread then.
-pub fn append(m: Message, slots: &mut Slots, contents: &mut Contents) -> u16
+pub fn append(m: Message, slots: &mut Slots, contents: &mut Contents) -> Count
     requires { ⌜ Mail (now slots) (now contents) ⌝ }
     requires { ⌜ length (messagesIn (now slots) (now contents)) < limit ⌝ }
     requires { ⌜ m .sender .0 < ranks ⌝ }

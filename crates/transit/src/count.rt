@@ -9,6 +9,7 @@ ghost use Rattle.transit.specs.Mail.{Mail, messagesIn};
 ghost use Rattle.transit.specs.Message.{between, picks, ranks};
 ghost use Rattle.transit.specs.Pick.{hits};
 ghost use Rattle.transit.specs.declared.Selection.{Selection};
+use crate::Count;
 use crate::Place;
 use crate::Rank;
 use crate::Slots;
@@ -32,7 +33,7 @@ pub fn unread(slots: &Slots) -> usize
 }
 
 // How many messages from `a` to `b` are unread.
-pub fn unread_between(a: Rank, b: Rank, slots: &Slots) -> u16
+pub fn unread_between(a: Rank, b: Rank, slots: &Slots) -> Count
     ensures { λ r. ⌜ ((contents : List ℕ) → Mail (now (slots .entry)) contents
         → r ≡ tally (between a b) (messagesIn (now (slots .entry)) contents)) ⌝ }
 {
@@ -46,10 +47,10 @@ pub fn unread_between(a: Rank, b: Rank, slots: &Slots) -> u16
 }
 
 // How many slots are picked.
-fn count_hits(w: Pick, slots: &Slots) -> u16
+fn count_hits(w: Pick, slots: &Slots) -> Count
     ensures { λ r. ⌜ r ≡ hits w (columnsOf (now (slots .entry))) SLOTS ⌝ }
 {
-    let mut n: u16 = 0;
+    let mut n: Count = 0;
     let mut i: usize = 0;
     while i < SLOTS {
         let hit = picked(w, slots[i], slots[PLACES + i]);
@@ -60,7 +61,7 @@ fn count_hits(w: Pick, slots: &Slots) -> u16
 }
 
 // How many messages from `a` to `b` are unread at a place.
-pub fn count_at(a: Rank, b: Rank, place: Place, slots: &Slots) -> u16
+pub fn count_at(a: Rank, b: Rank, place: Place, slots: &Slots) -> Count
     requires { ⌜ a .0 < ranks ⌝ }
     requires { ⌜ b .0 < ranks ⌝ }
     ensures { λ r. ⌜ ((contents : List ℕ) → Mail (now (slots .entry)) contents
@@ -80,7 +81,7 @@ pub fn count_at(a: Rank, b: Rank, place: Place, slots: &Slots) -> u16
 }
 
 // How many messages to `r` are unread at a place.
-pub fn count_to(r: Rank, place: Place, slots: &Slots) -> u16
+pub fn count_to(r: Rank, place: Place, slots: &Slots) -> Count
     requires { ⌜ r .0 < ranks ⌝ }
     ensures { λ n. ⌜ ((contents : List ℕ) → Mail (now (slots .entry)) contents
         → n ≡ tally (picks (Selection.ToAt r place)) (messagesIn (now (slots .entry)) contents)) ⌝ }

@@ -29,6 +29,10 @@ pub const SLOTS_LENGTH: usize = 6914;
 
 pub const CONTENTS_LENGTH: usize = 2048;
 
+// How many messages of a pair are unread, or of another selection. Paper 02, change 3: "it is to be counted, kept and handed out there in
+// 16 bits."
+pub type Count = u16;
+
 // Where an unread message is held: paper 01's places 0 to 3, in this order.
 pub enum Place {
     // 0, the mover's list: already read from the channel by the source process of a migration.

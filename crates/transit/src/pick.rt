@@ -2,6 +2,7 @@
 ghost use mathlib.Core.Path.{_≡_};
 ghost use mathlib.Core.Bool.{cond};
 ghost use Rattle.transit.specs.Pick.{picked};
+use crate::Count;
 use crate::layout::ROW;
 
 // The slots of a pair number from `low` up to `high` that are to `receiver`, at the place of a number.
@@ -20,7 +21,7 @@ pub fn picked(w: Pick, pair: u16, place: u16) -> bool
 }
 
 // 1 where a slot is picked, and 0 elsewhere.
-pub fn one_if(hit: bool) -> u16
+pub fn one_if(hit: bool) -> Count
     ensures { λ r. ⌜ r ≡ cond hit 1 0 ⌝ }
 {
     if hit { 1 } else { 0 }

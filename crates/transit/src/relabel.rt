@@ -8,6 +8,7 @@ ghost use Rattle.transit.specs.Mail.{Mail, Relabelled, FirstRelabelled};
 ghost use Rattle.transit.specs.Message.{ranks};
 ghost use Rattle.transit.specs.Pick.{Passed};
 ghost use Rattle.transit.specs.declared.Selection.{Selection};
+use crate::Count;
 use crate::Place;
 use crate::Rank;
 use crate::Slots;
@@ -23,10 +24,10 @@ use crate::pick::picked;
 use crate::walk::seek;
 
 // The picked slots go to the place of a number; how many.
-fn pass(w: Pick, to: u16, slots: &mut Slots) -> u16
+fn pass(w: Pick, to: u16, slots: &mut Slots) -> Count
     ensures { λ n. ⌜ (length (now (slots .entry)) ≡ slotsLength → Passed w to (now (slots .entry)) SLOTS n (now (slots .exit))) ⌝ }
 {
-    let mut n: u16 = 0;
+    let mut n: Count = 0;
     let mut i: usize = 0;
     while i < SLOTS {
         let place = slots[PLACES + i];
@@ -39,7 +40,7 @@ fn pass(w: Pick, to: u16, slots: &mut Slots) -> u16
 }
 
 // The messages from `a` to `b` at one place go to another; how many.
-pub fn relabel_between(a: Rank, b: Rank, from: Place, to: Place, slots: &mut Slots) -> u16
+pub fn relabel_between(a: Rank, b: Rank, from: Place, to: Place, slots: &mut Slots) -> Count
     requires { ⌜ a .0 < ranks ⌝ }
     requires { ⌜ b .0 < ranks ⌝ }
     ensures { λ n. ⌜ ((contents : List ℕ) → Mail (now (slots .entry)) contents
@@ -61,7 +62,7 @@ pub fn relabel_between(a: Rank, b: Rank, from: Place, to: Place, slots: &mut Slo
 }
 
 // The messages to `r` at one place go to another; how many.
-pub fn relabel_to(r: Rank, from: Place, to: Place, slots: &mut Slots) -> u16
+pub fn relabel_to(r: Rank, from: Place, to: Place, slots: &mut Slots) -> Count
     requires { ⌜ r .0 < ranks ⌝ }
     ensures { λ n. ⌜ ((contents : List ℕ) → Mail (now (slots .entry)) contents
         → Relabelled (Selection.ToAt r from) to (now (slots .entry)) contents n (now (slots .exit))) ⌝ }

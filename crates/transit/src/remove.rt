@@ -4,6 +4,7 @@ ghost use Rattle.base.specs.Lists.{tally};
 ghost use Rattle.transit.specs.Mail.{Mail, messagesIn, Left};
 ghost use Rattle.transit.specs.Message.{between, ranks};
 use crate::Contents;
+use crate::Count;
 use crate::Rank;
 use crate::Slots;
 use crate::layout::COUNT;
@@ -16,7 +17,7 @@ use crate::layout::pair_of;
 // The value of the message that left, and how many of its pair are left.
 pub struct Removed {
     pub value: u32,
-    pub left: u16,
+    pub left: Count,
 }
 
 // The first message from `a` to `b` leaves.

@@ -7,6 +7,7 @@ ghost use Rattle.transit.specs.Mail.{Mail, messagesIn, Appended};
 ghost use Rattle.transit.specs.Message.{ranks};
 ghost use Rattle.transit.specs.Unread.{limit};
 use crate::Contents;
+use crate::Count;
 use crate::Message;
 use crate::Slots;
 use crate::layout::COUNT;
@@ -20,7 +21,7 @@ use crate::layout::UNREAD;
 use crate::layout::pair_of;
 
 // The message stands at the tail, where there is room; how many of its pair are unread then.
-pub fn put(m: Message, slots: &mut Slots, contents: &mut Contents) -> u16
+pub fn put(m: Message, slots: &mut Slots, contents: &mut Contents) -> Count
     requires { ⌜ Mail (now slots) (now contents) ⌝ }
     requires { ⌜ columnsOf (now slots) .tail < SLOTS ⌝ }
     requires { ⌜ length (messagesIn (now slots) (now contents)) < limit ⌝ }
