@@ -48,8 +48,7 @@ use Rattle.transit.specs.Laws.Columns.{
   tail-is,
   unread-is,
 }
-use Rattle.transit.specs.Laws.Links.{count-bounded}
-use Rattle.transit.specs.Laws.Mail.{count-in}
+use Rattle.transit.specs.Laws.Mail.{count-in, count-limit, unread-in}
 use Rattle.transit.specs.Laws.Messages.{pair-small, put-messages}
 use Rattle.base.specs.Laws.Lists.{tally-append}
 use Rattle.transit.specs.Laws.Order.{place-below-four}
@@ -101,11 +100,11 @@ module _ {s v : List ℕ} {m : Message} {p n : ℕ} (r : Room s v m p n) where
   pub tail-inside : getD s TAIL 0 < SLOTS
   tail-inside = omega (arith, tail-is s, r .room)
 
-  -- A pair has few messages, and few are unread in all.
-  pub counts-few : (getD s (COUNT + p) 0 ≤ SLOTS) × (getD s UNREAD 0 < 1024)
+  -- A pair has at most 1,024 messages unread, and fewer are unread in all.
+  pub counts-few : (getD s (COUNT + p) 0 ≤ limit) × (getD s UNREAD 0 < limit)
   counts-few = (
-    omega (arith, count-at s p small, count-bounded (r .mail .index) sized p small),
-    omega (arith, unread-is s, r .mail .stored, r .few),
+    rw (r .of-pair) (count-limit (m .sender) (m .receiver) (r .mail) (r .from) (r .to)),
+    omega (arith, unread-in (r .mail), r .few),
   )
 
   -- The columns after the first stores.

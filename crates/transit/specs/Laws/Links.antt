@@ -11,7 +11,6 @@ use lib.ListN.{length, getD, set}
 use lib.Seq.{getD-set-other}
 use Rattle.transit.specs.Columns.{Columns, withPlaces, SLOTS, DEAD}
 use Rattle.transit.specs.Index.{Next, Last, Dead, slotsOf, Index, Sizes}
-use Rattle.base.specs.Laws.Lists.{tally-bounded}
 use Rattle.base.specs.Laws.Stores.{read-set, tally-set}
 use Rattle.base.specs.Laws.Tests.{by-less}
 use Rattle.transit.specs.Message.{cells}
@@ -97,10 +96,6 @@ module _ {c : Columns} (x : Index c) (z : Sizes c) (p : ℕ) (small : p < cells)
       (λ end.
       let none = slots-none p (c .pairs) (λ k h. x .firsts p small .apart k (omega arith) (omega (arith, z .pairs-long))) in
       absurd (omega (arith, x .counts p small)))
-
-  -- A pair has no more slots than there are.
-  pub count-bounded : getD (c .count) p 0 ≤ SLOTS
-  count-bounded = omega (arith, x .counts p small, tally-bounded (λ y. eqb y p) (c .pairs), z .pairs-long)
 
 -- The index does not look at the places.
 pub index-places : {c : Columns} (l : List ℕ) → Index c → Index (withPlaces c l)

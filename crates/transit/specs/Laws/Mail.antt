@@ -13,11 +13,12 @@ use Rattle.base.specs.Lists.{select, tally, every}
 use Rattle.transit.specs.Mail.{messagesIn, Mail}
 use Rattle.transit.specs.Message.{sameRank, to, between, ranks, cells}
 use Rattle.transit.specs.Slots.{pairOf, ranked}
+use Rattle.transit.specs.Unread.{limit}
 use Rattle.transit.specs.declared.Message.{Message}
 use Rattle.transit.specs.declared.Rank.{Rank}
 use Rattle.transit.specs.Laws.Columns.{count-at, unread-is}
 use Rattle.transit.specs.Laws.Links.{index-places}
-use Rattle.base.specs.Laws.Lists.{every-wider, select-none}
+use Rattle.base.specs.Laws.Lists.{every-wider, select-none, tally-bounded}
 use Rattle.transit.specs.Laws.Messages.{held-ranked, pair-small, count-messages}
 use Rattle.base.specs.Laws.Tests.{by-test, both-left, both-right}
 
@@ -36,6 +37,14 @@ pub count-in : {s v : List ℕ} (a b : Rank) → Mail s v → a .0 < ranks → b
 unfolding messagesIn
 count-in {s} {v} a b d small-a small-b =
     sym (count-at s (pairOf a b) (pair-small a b small-a small-b)) ∙ count-messages a b small-a small-b (d .index) v
+
+-- How many messages pass a test never passes 1,024.
+pub tally-limit : {s v : List ℕ} → Mail s v → (q : Message → Bool) → tally q (messagesIn s v) ≤ limit
+tally-limit {s} {v} d q = omega (arith, tally-bounded q (messagesIn s v), d .few)
+
+-- Paper 02, change 3: "The unread count of a pair never passes 1,024." The number stored for it.
+pub count-limit : {s v : List ℕ} (a b : Rank) → Mail s v → a .0 < ranks → b .0 < ranks → getD s (COUNT + pairOf a b) 0 ≤ limit
+count-limit a b d small-a small-b = omega (arith, count-in a b d small-a small-b, tally-limit d (between a b))
 
 -- What passes at no message between ranks passes at none.
 pub none-in : (s v : List ℕ) (q : Message → Bool) → ((m : Message) → ranked m ≡ true → q m ≡ false) → select q (messagesIn s v) ≡ []
