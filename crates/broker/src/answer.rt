@@ -4,6 +4,7 @@ ghost use mathlib.Core.Path.{_≡_};
 ghost use Prim.Native.Nat.{_+_, _<_};
 ghost use lib.Dec.{ltb};
 ghost use Rattle.broker.specs.Answer.{refusalNumber, number, values, listed};
+use transit::Count;
 
 // Why a step is refused: the rows of the table of checks, numbers 1 to 17 and 19 to 25 in this order.
 pub enum Refusal {
@@ -40,6 +41,13 @@ pub enum Answer {
 
 // v1, v2 and v3 of an answer.
 pub struct Values(pub u32, pub u32, pub u32);
+
+// A count of unread messages as it is answered and printed: its 16 bits widen here and nowhere else.
+pub fn widened(n: Count) -> u32
+    ensures { λ r. ⌜ r ≡ n ⌝ }
+{
+    n as u32
+}
 
 impl Refusal {
     // Its row in the table of checks, counted from 1 with 18 left out: up to there it is the number.

@@ -16,6 +16,7 @@ ghost use Rattle.checks.specs.Verdict.{verdictOf, passed, judged};
 ghost use Rattle.connect.specs.Tests.{callTests, routeTests, partTests};
 use broker::answer::Refusal;
 use broker::answer::Values;
+use broker::answer::widened;
 use broker::link::Connection;
 use broker::process::Request;
 use broker::process::Status;
@@ -179,5 +180,5 @@ pub fn part(a: Rank, b: Rank, slots: &mut Slots, roster: &mut Roster) -> Values
     let to_first = relabel_between(b, a, Place::Channel, Place::EndList, slots);
     let to_second = relabel_between(a, b, Place::Channel, Place::EndList, slots);
     connect_both(a, b, Connection::Closed, roster);
-    Values(to_first as u32, to_second as u32, 0)
+    Values(widened(to_first), widened(to_second), 0)
 }

@@ -17,6 +17,7 @@ ghost use Rattle.checks.specs.Verdict.{verdictOf, passed, judged};
 ghost use Rattle.exchange.specs.Tests.{sendTests, takeTests, lookTests};
 use broker::answer::Refusal;
 use broker::answer::Values;
+use broker::answer::widened;
 use broker::link::Connection;
 use broker::process::Status;
 use checks::unread::is_nothing;
@@ -25,6 +26,7 @@ use roster::Roster;
 use roster::read::link_between;
 use roster::read::standing_of;
 use transit::Contents;
+use transit::Count;
 use transit::Found;
 use transit::Message;
 use transit::Place;
@@ -105,10 +107,10 @@ pub fn send(
         slots,
         contents,
     );
-    Values(pair as u32, 0, 0)
+    Values(widened(pair), 0, 0)
 }
 
-fn take_checked(b: Rank, a: Rank, receiver: Status, sender: Status, unread: u16) -> Verdict
+fn take_checked(b: Rank, a: Rank, receiver: Status, sender: Status, unread: Count) -> Verdict
     ensures { λ v. ⌜ verdictOf v ≡ judged passed (takeTests b a receiver sender unread) ⌝ }
 {
     Verdict::on_two(b, a, receiver, sender)
@@ -136,7 +138,7 @@ pub fn take(b: Rank, a: Rank, slots: &mut Slots, contents: &Contents) -> Values
         (now (slots .exit)) (now (contents .entry)) roster) ⌝ }
 {
     let removed = remove(a, b, slots, contents);
-    Values(removed.value, removed.left as u32, 0)
+    Values(removed.value, widened(removed.left), 0)
 }
 
 fn look_checked(r: Rank, receiver: Status, found: Found) -> Verdict

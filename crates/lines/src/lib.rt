@@ -46,19 +46,26 @@ pub fn refused_line(page: &mut [u8], used: usize, position: u64, kind: u8, why: 
 pub fn pair_line(
     page: &mut [u8],
     used: usize,
-    a: u64,
-    b: u64,
-    first: u64,
-    second: u64,
-    third: u64,
-    fourth: u64,
+    a: u8,
+    b: u8,
+    first: u32,
+    second: u32,
+    third: u32,
+    fourth: u32,
 ) -> usize
     requires { ⌜ used + pairRoom ≤ length (now page) ⌝ }
     ensures { λ r. ⌜ Put pairRoom (now (page .entry)) used (pairLine a b (first ∷ second ∷ third ∷ fourth ∷ [])) (now (page .exit)) r ⌝ }
 {
     let mut at = put_four_bytes(page, used, b'p', b'a', b'i', b'r');
-    at = put_two_numbers(page, at, a, b);
-    at = put_four_numbers(page, at, first, second, third, fourth);
+    at = put_two_numbers(page, at, a as u64, b as u64);
+    at = put_four_numbers(
+        page,
+        at,
+        first as u64,
+        second as u64,
+        third as u64,
+        fourth as u64,
+    );
     put_byte(page, at, b'\n')
 }
 

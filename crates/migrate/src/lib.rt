@@ -15,6 +15,7 @@ ghost use Rattle.checks.specs.Verdict.{verdictOf, passed, judged};
 ghost use Rattle.migrate.specs.Tests.{migratingTests, heedTests, drainTests, landTests};
 use broker::answer::Refusal;
 use broker::answer::Values;
+use broker::answer::widened;
 use broker::link::Backlog;
 use broker::link::Connection;
 use broker::process::Status;
@@ -68,7 +69,7 @@ pub fn heed(b: Rank, r: Rank, slots: &mut Slots, roster: &mut Roster) -> Values
     let moved = relabel_between(r, b, Place::Channel, Place::EndList, slots);
     connect(b, r, Connection::Closed, roster);
     awaiting(r, b, Backlog::Marked, roster);
-    Values(moved as u32, 0, 0)
+    Values(widened(moved), 0, 0)
 }
 
 // The verdict so far, and that the rank, which is started, migrates.
@@ -167,5 +168,5 @@ pub fn land(r: Rank, slots: &mut Slots, roster: &mut Roster) -> Values
     let moved = relabel_to(r, Place::SourceList, Place::EndList, slots);
     set_standing(r, Status::Running(target), roster);
     let listed = count_to(r, Place::EndList, slots);
-    Values(listed as u32, 0, 0)
+    Values(widened(listed), 0, 0)
 }

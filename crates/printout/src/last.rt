@@ -5,6 +5,7 @@ ghost use lib.ListN.{length};
 ghost use Rattle.transit.specs.Message.{ranks};
 ghost use Rattle.lines.specs.Lines.{linesOfPair, linesOfSender, pairLines, pairRoom, endLine};
 ghost use Rattle.printout.specs.Last.{PutOf, senderRoom, lastRoom};
+use broker::answer::widened;
 use broker::state::Broker;
 use lines::end_line;
 use lines::pair_line;
@@ -25,20 +26,11 @@ fn lines_of_pair(page: &mut [u8], used: usize, a: u8, b: u8, slots: &Slots) -> u
     if unread_between(from, to, slots) == 0 {
         return used;
     }
-    let first = count_at(from, to, Place::SourceList, slots);
-    let second = count_at(from, to, Place::SourceChannel, slots);
-    let third = count_at(from, to, Place::EndList, slots);
-    let fourth = count_at(from, to, Place::Channel, slots);
-    pair_line(
-        page,
-        used,
-        a as u64,
-        b as u64,
-        first as u64,
-        second as u64,
-        third as u64,
-        fourth as u64,
-    )
+    let first = widened(count_at(from, to, Place::SourceList, slots));
+    let second = widened(count_at(from, to, Place::SourceChannel, slots));
+    let third = widened(count_at(from, to, Place::EndList, slots));
+    let fourth = widened(count_at(from, to, Place::Channel, slots));
+    pair_line(page, used, a, b, first, second, third, fourth)
 }
 
 // The lines of the pairs with a sender.

@@ -7,16 +7,18 @@ use Rattle.connect.proofs.part.Tie as tie
 
 returns : tie.Need-returns
 returns c = λ contents m.
-    let second = c .before .before in
+    let closed = c .before .before in
+    let second = closed .before .before in
     let first = second .before .before in
     let start = first .before .before in
     let args = start .args in
     let read = first .relabel-between .ensures contents m in
     let both = second .relabel-between2 .ensures contents (read .kept) in
     record {
-      kept = record { mail = both .kept; long = c .connect-both .ensures .long };
+      kept = record { mail = both .kept; long = closed .connect-both .ensures .long };
       does = λ ok.
-          part-done (args .a) (args .b) (start .pre .1 .1) (ranksOf (args .roster .now)) read both (c .connect-both .ensures .same);
+          rw (c .before .widened .ensures, c .widened2 .ensures)
+          (part-done (args .a) (args .b) (start .pre .1 .1) (ranksOf (args .roster .now)) read both (closed .connect-both .ensures .same));
     }
 
 pub part-spec : {M : Type 1} → statement M

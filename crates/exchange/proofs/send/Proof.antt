@@ -10,14 +10,17 @@ use Rattle.exchange.proofs.send.Tie as tie
 
 returns : tie.Need-returns
 returns c =
-    let placed = c .before .before .before in
+    let behind = c .before in
+    let placed = behind .before .before .before in
     let start = placed .before .before in
     let args = start .args in
     let at-place = placed .place-over .ensures ∙ ap (λ (l : Link). placeOver (l .connection)) (placed .before .link-between .ensures) in
-    let x = c .append .ensures in
+    let x = behind .append .ensures in
     record {
       kept = record { mail = x .kept; long = start .pre .0 .long };
-      does = λ ok. send-done (args .a) (args .b) (ranksOf (args .roster .now)) (args .value) _ at-place x (start .pre .1 .1);
+      does = λ ok.
+          rw (c .widened .ensures)
+          (send-done (args .a) (args .b) (ranksOf (args .roster .now)) (args .value) _ at-place x (start .pre .1 .1));
     }
 
 pub send-spec : {M : Type 1} → statement M

@@ -13,7 +13,8 @@ returns c = λ roster whole.
     record {
       kept = record { mail = left .kept; long = whole };
       does = λ ok.
-          take-done (start .args .a) (start .args .b) (ranksOf roster) left (ranks-in .0) (ranks-in .1) (start .pre .1 .1) ok;
+          rw (c .widened .ensures)
+          (take-done (start .args .a) (start .args .b) (ranksOf roster) left (ranks-in .0) (ranks-in .1) (start .pre .1 .1) ok);
     }
 
 pub take-spec : {M : Type 1} → statement M

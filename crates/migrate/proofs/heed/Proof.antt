@@ -7,14 +7,17 @@ use Rattle.migrate.proofs.heed.Tie as tie
 
 returns : tie.Need-returns
 returns c = λ contents m.
-    let closed = c .before .before in
+    let marked = c .before in
+    let closed = marked .before .before in
     let read = closed .before .before in
     let args = read .before .before .args in
     let listed = read .relabel-between .ensures contents m in
     record {
-      kept = record { mail = listed .kept; long = c .awaiting .ensures .long };
+      kept = record { mail = listed .kept; long = marked .awaiting .ensures .long };
       does = λ ok.
-          heed-done (ranksOf (args .roster .now)) (args .b) (args .r) listed (closed .connect .ensures .same) (c .awaiting .ensures .same);
+          rw (c .widened .ensures)
+          (heed-done (ranksOf (args .roster .now)) (args .b) (args .r) listed (closed .connect .ensures .same)
+          (marked .awaiting .ensures .same));
     }
 
 pub heed-spec : {M : Type 1} → statement M

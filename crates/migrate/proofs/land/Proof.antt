@@ -12,7 +12,8 @@ use Rattle.migrate.proofs.land.Tie as tie
 
 returns : tie.Need-returns
 returns c = λ contents m.
-    let running = c .before .before in
+    let total = c .before in
+    let running = total .before .before in
     let moved = running .before .before in
     let end = moved .before .before in
     let args = end .before .before .before .args in
@@ -22,7 +23,7 @@ returns c = λ contents m.
     let listed = moved .relabel-to .ensures contents m in
     record {
       kept = record { mail = listed .kept; long = running .set-standing .ensures .long };
-      does = λ ok. land-done ranks (args .r) listed runs (c .count-to .ensures contents (listed .kept));
+      does = λ ok. rw (c .widened .ensures) (land-done ranks (args .r) listed runs (total .count-to .ensures contents (listed .kept)));
     }
 
 pub land-spec : {M : Type 1} → statement M

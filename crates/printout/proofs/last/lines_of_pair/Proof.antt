@@ -26,25 +26,29 @@ returns-2 : tie.Need-returns-2
 returns-2 c =
     let line = c .before .before in
     let fourth = line .before .before in
-    let third = fourth .before in
-    let second = third .before in
-    let first = second .before in
-    let else = first .before in
+    let third = fourth .before .before in
+    let second = third .before .before in
+    let first = second .before .before in
+    let else = first .before .before in
     let between = else .before in
     let args = between .before .before .args in
     record {
       text =
           pairLine (args .a) (args .b)
-          (first .count-at .result ∷ second .count-at2 .result ∷ third .count-at3 .result ∷ fourth .count-at4 .result ∷ []);
+          (first .widened .result ∷ second .widened2 .result ∷ third .widened3 .result ∷ fourth .widened4 .result ∷ []);
       put = line .pair-line .ensures;
       same = λ contents held.
           one-line (messagesIn (args .slots .now) contents) (args .a) (args .b)
           (λ none. else .if1 .left (between .unread-between .ensures contents held ∙ none))
           (rw (
-            first .count-at .ensures contents held,
-            second .count-at2 .ensures contents held,
-            third .count-at3 .ensures contents held,
-            fourth .count-at4 .ensures contents held,
+            first .widened .ensures,
+            second .widened2 .ensures,
+            third .widened3 .ensures,
+            fourth .widened4 .ensures,
+            first .before .count-at .ensures contents held,
+            second .before .count-at2 .ensures contents held,
+            third .before .count-at3 .ensures contents held,
+            fourth .before .count-at4 .ensures contents held,
           ));
     }
 
