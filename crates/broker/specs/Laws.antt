@@ -7,6 +7,7 @@ pub mod Changes
 pub mod Checks
 pub mod Core
 pub mod CoreStep
+pub mod Counts
 pub mod Each
 pub mod Edges
 pub mod Effect

@@ -7,3 +7,4 @@ pub mod Sends
 pub mod Second
 pub mod Ordering
 pub mod Open
+pub mod Counts
