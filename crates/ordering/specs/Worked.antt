@@ -7,3 +7,4 @@ pub mod Unlanded
 pub mod Listing
 pub mod Overlapping
 pub mod Restarts
+pub mod Full

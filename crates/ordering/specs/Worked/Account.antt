@@ -53,11 +53,20 @@ sound-account s (x ∷ xs) h =
     (λ (o : Outcome). ahead x o (soundAccount (o .state) xs))
     (step-of-sound (x .named) s (x .log) (x .at) h)
 
--- the account from the fresh state; where this is opened, all that a step computes with is open
-unfoldable pub computed : List Reading → Account
+-- the account from a sound state; where this is opened, all that a step computes with is open
+unfoldable pub computedFrom : State → List Reading → Account
 unfolding opened
-computed xs = soundAccount fresh xs
+computedFrom s xs = soundAccount s xs
+
+pub from-sound : (s : State) (xs : List Reading) → sound s ≡ true → account s xs ≡ computedFrom s xs
+unfolding computedFrom
+from-sound s xs h = sound-account s xs h
+
+-- the account from the fresh state
+unfoldable pub computed : List Reading → Account
+unfolding computedFrom
+computed xs = computedFrom fresh xs
 
 pub from-fresh : (xs : List Reading) → account fresh xs ≡ computed xs
 unfolding computed
-from-fresh xs = sound-account fresh xs fresh-sound
+from-fresh xs = from-sound fresh xs fresh-sound

@@ -1,0 +1,133 @@
+-- A pair that has all 1,024 messages of the desk: a worked run from the fresh state. Paper 02, change 3: "The unread count of a pair never
+-- passes 1,024." It comes to that, and no further. Assumes nothing.
+use mathlib.Core.Path.{_≡_, refl, ap, _∙_}
+use mathlib.Core.Bool.{true}
+use mathlib.Core.List.{List, [], _∷_, _++_}
+use Prim.Native.Nat.{ℕ, zero, suc, _+_, _<_, _≤_}
+use native.Mathlib.Omega.{arith}
+use lib.ListN.{replicate, length-replicate, replicate-append-replicate}
+use Rattle.base.specs.Lists.{select}
+use Rattle.transit.specs.Laws.Operations.{appends}
+use Rattle.transit.specs.Message.{rank, between}
+use Rattle.transit.specs.Unread.{AfterAppend, limit}
+use Rattle.transit.specs.declared.Message.{Message}
+use Rattle.transit.specs.declared.Place.the-variants.{Channel}
+use Rattle.transit.specs.declared.Rank.{Rank}
+use Rattle.broker.specs.Laws.Accepted.{SendFits}
+use Rattle.broker.specs.Laws.Accepts.{send-accepted}
+use Rattle.broker.specs.Laws.Opened.{opened}
+use Rattle.broker.specs.Laws.Step.{step-accepted, step-of-sound, step-keeps-sound}
+use Rattle.broker.specs.Messages.{send, unreadBetween}
+use Rattle.broker.specs.Record.{decode}
+use Rattle.broker.specs.Sound.{sound}
+use Rattle.broker.specs.State.{State, fresh, withUnread}
+use Rattle.broker.specs.Step.{Outcome, apply}
+use Rattle.broker.specs.declared.answer.Answer.the-variants.{Refused}
+use Rattle.broker.specs.declared.answer.Refusal.the-variants.{Full}
+use Rattle.broker.specs.declared.record.Record.the-variants.{Start, Call, Route, Send, Move, Land, Part}
+use Rattle.ordering.specs.Claim.{Reading, Entry, stepAt, after, accepted}
+use Rattle.ordering.specs.Laws.Counts.{count-never-passes}
+use Rattle.ordering.specs.Laws.Runs.{fresh-sound, sound-after}
+use Rattle.ordering.specs.Worked.Account.{Account, computedFrom, computed, from-sound, from-fresh}
+use Rattle.ordering.specs.Worked.Result.{whole, did, written, readings}
+
+-- rank 0 and rank 1 are joined
+abbrev joining : List Entry
+joining =
+    did (Start (rank 0) 0) 0 ∷
+    did (Start (rank 1) 1) 1 ∷
+    did (Call (rank 0) (rank 1)) 1 ∷
+    did (Route (rank 0) (rank 1)) 0 ∷ []
+
+abbrev joined : State
+joined = computed (readings joining) .end
+
+-- a send from rank 0 to rank 1, and the message that it adds
+abbrev sending : Reading
+sending = whole (written (Send (rank 0) (rank 1) 7))
+
+abbrev message : Message
+message = record { sender = rank 0; receiver = rank 1; value = 7; place = Channel }
+
+-- the two ranks with so many messages unread
+abbrev laden : ℕ → State
+laden n = withUnread (record { messages = replicate n message; count = n }) joined
+
+send-fits : (n : ℕ) → n < limit → SendFits (laden n) (rank 0) (rank 1)
+unfolding computed
+send-fits n room =
+    record {
+      two = record { first = omega arith; second = omega arith; apart = refl; first-started = refl; second-started = refl };
+      running = refl;
+      line = refl;
+      room = room;
+    }
+
+-- One more message is unread after a send.
+one-more : (n : ℕ) → n < limit → sound (laden n) ≡ true → stepAt (laden n) sending .state ≡ laden (n + 1)
+unfolding computed decode apply send
+one-more n room h =
+    ap (λ (o : Outcome). o .state)
+    (step-accepted (rank 0) (laden n) (sending .log) 0 (Send (rank 0) (rank 1) 7) 7 h refl
+    (send-accepted (laden n) (rank 0) (rank 1) 7 (send-fits n room))) ∙
+    ap (λ (u : AfterAppend). withUnread (u .unread) joined) (appends (laden n .unread) message room) ∙
+    ap (λ (l : List Message). withUnread (record { messages = l; count = n + 1 }) joined) (replicate-append-replicate n 1 message)
+
+-- So many more are unread after so many sends.
+fills : (k n : ℕ) → n + k ≤ limit → sound (laden n) ≡ true → after (laden n) (replicate k sending) ≡ laden (n + k)
+fills zero n room h = ap laden (omega arith)
+fills (suc k) n room h =
+    let more = one-more n (omega arith) h in
+    let kept = rw more at (step-keeps-sound (rank 0) (laden n) (sending .log) 0 h) in
+    let sum : n + 1 + k ≡ n + suc k = omega arith in
+    ap (λ (s : State). after s (replicate k sending)) more ∙ fills k (n + 1) (omega arith) kept ∙ ap laden sum
+
+-- the two are joined, and rank 0 sends so often
+abbrev filling : ℕ → List Reading
+filling n = readings joining ++ replicate n sending
+
+begins : after fresh (readings joining) ≡ laden 0
+unfolding computed
+begins = ap (λ (t : Account). t .end) (from-fresh (readings joining))
+
+leaves : (n : ℕ) → n ≤ limit → after fresh (filling n) ≡ laden n
+leaves n room =
+    let start = rw begins at (sound-after (readings joining) fresh fresh-sound) in
+    let sum : 0 + n ≡ n = omega arith in
+    ap (λ (s : State). after s (replicate n sending)) begins ∙ fills n 0 (omega arith) start ∙ ap laden sum
+
+of-the-pair : (n : ℕ) → select (between (rank 0) (rank 1)) (replicate n message) ≡ replicate n message
+of-the-pair zero = refl
+of-the-pair (suc n) = ap (λ (l : List Message). message ∷ l) (of-the-pair n)
+
+-- After so many sends, up to 1,024, the pair has as many unread.
+pub counts-them-all : (n : ℕ) → n ≤ limit → unreadBetween (rank 0) (rank 1) (after fresh (filling n)) ≡ n
+counts-them-all n room = rw (leaves n room, of-the-pair n) (length-replicate n message)
+
+-- No list of steps leaves more to any pair than 1,024 sends leave to this one.
+pub none-leaves-more : (xs : List Reading) (a b : Rank)
+    → unreadBetween a b (after fresh xs) ≤ unreadBetween (rank 0) (rank 1) (after fresh (filling limit))
+none-leaves-more xs a b = rw (counts-them-all limit (omega arith)) (count-never-passes xs a b)
+
+full-leaves : after fresh (filling limit) ≡ laden limit
+full-leaves = leaves limit (omega arith)
+
+full-sound : sound (after fresh (filling limit)) ≡ true
+full-sound = sound-after (filling limit) fresh fresh-sound
+
+-- One more send is refused with 24.
+pub one-more-is-refused : stepAt (after fresh (filling limit)) sending .answer ≡ Refused Full
+unfolding computedFrom computed
+one-more-is-refused =
+    ap (λ (o : Outcome). o .answer) (step-of-sound (rank 0) (after fresh (filling limit)) (sending .log) 0 full-sound) ∙
+    ap (λ (s : State). opened (rank 0) s (sending .log) 0 .answer) full-leaves
+
+-- a part, a move and a landing, of which the first and the last count all 1,024
+abbrev carrying : List Entry
+carrying = did (Part (rank 1) (rank 0)) limit ∷ did (Move (rank 1) 2) 2 ∷ did (Land (rank 1)) limit ∷ []
+
+pub all-are-carried : accepted (after fresh (filling limit)) (readings carrying) ≡ carrying
+unfolding computedFrom computed
+all-are-carried =
+    ap (λ (t : Account). t .steps) (from-sound (after fresh (filling limit)) (readings carrying) full-sound) ∙
+    ap (λ (s : State). computedFrom s (readings carrying) .steps) full-leaves
