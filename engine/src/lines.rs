@@ -4,7 +4,7 @@
 
 use crate::desk::Desk;
 use crate::names::Rank;
-use crate::refusal::{number_of, values_of, Answer};
+use crate::refusal::{count_value, number_of, values_of, Answer};
 
 /// No line is longer: twenty digits of a position, two each of the kind and
 /// the number, three values of ten digits, and six separators.
@@ -103,7 +103,7 @@ pub(crate) fn print_unread(text: &mut Vec<u8>, desk: &Desk) {
 fn print_pair(text: &mut Vec<u8>, desk: &Desk, sender: Rank, receiver: Rank) {
     let mut line = Line::ended();
     for count in desk.mail().counts(sender, receiver).into_iter().rev() {
-        line.put_field(u32::from(count));
+        line.put_field(count_value(count));
     }
     line.put_field(u32::from(receiver.0));
     line.put_field(u32::from(sender.0));

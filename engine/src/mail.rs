@@ -6,6 +6,14 @@ use crate::names::Rank;
 use crate::rank_set::RankSet;
 use std::collections::VecDeque;
 
+/// How many messages of one ordered pair are unread, in all or at a place. "The
+/// unread count of a pair never passes 1,024. However the lower part holds it
+/// now, it is to be counted, kept and handed out there in 16 bits" (paper 02,
+/// Change 3).
+pub type PairCount = u16;
+
+const _: () = assert!(Mail::LIMIT <= PairCount::MAX as usize);
+
 /// Where an unread message is; its discriminant is the paper's place.
 #[derive(Clone, Copy, Debug, PartialEq, Eq, PartialOrd, Ord)]
 #[repr(u8)]
@@ -36,18 +44,24 @@ impl Place {
 #[derive(Clone, Debug, Default)]
 struct PairQueue {
     values: VecDeque<u32>,
-    counts: [u16; 4],
+    counts: [PairCount; 4],
 }
 
 impl PairQueue {
+    /// How many messages the pair has. The number fits: no pair has more than
+    /// the whole desk, which has at most `Mail::LIMIT`.
+    fn unread(&self) -> PairCount {
+        self.values.len() as PairCount
+    }
+
     /// Moves all messages at one place to another. Nothing may be at a place
     /// between the two, else places would fall along the order of sending.
-    fn shift(&mut self, from: Place, to: Place) -> u32 {
+    fn shift(&mut self, from: Place, to: Place) -> PairCount {
         let (low, high) = (from.min(to) as usize, from.max(to) as usize);
         debug_assert!(self.counts[low + 1..high].iter().all(|&count| count == 0));
         let moved = std::mem::take(&mut self.counts[from as usize]);
         self.counts[to as usize] += moved;
-        u32::from(moved)
+        moved
     }
 }
 
@@ -98,8 +112,8 @@ impl Mail {
     }
 
     /// How many messages from `sender` to `receiver` are unread.
-    pub fn unread_between(&self, sender: Rank, receiver: Rank) -> u32 {
-        self.queue(sender, receiver).values.len() as u32
+    pub fn unread_between(&self, sender: Rank, receiver: Rank) -> PairCount {
+        self.queue(sender, receiver).unread()
     }
 
     /// The ranks with a message unread by `receiver`.
@@ -108,7 +122,7 @@ impl Mail {
     }
 
     /// How many messages of a pair are at each place.
-    pub fn counts(&self, sender: Rank, receiver: Rank) -> [u16; 4] {
+    pub fn counts(&self, sender: Rank, receiver: Rank) -> [PairCount; 4] {
         self.queue(sender, receiver).counts
     }
 
@@ -125,26 +139,28 @@ impl Mail {
         queue.values.iter().copied().zip(places)
     }
 
-    /// Adds a message as the last of its pair. No message of the pair may be
-    /// at a higher place. Gives how many the pair then has.
-    pub fn append(&mut self, sender: Rank, receiver: Rank, value: u32, place: Place) -> u32 {
+    /// Adds a message as the last of its pair. The desk may not be full, and no
+    /// message of the pair may be at a higher place. Gives how many the pair
+    /// then has.
+    pub fn append(&mut self, sender: Rank, receiver: Rank, value: u32, place: Place) -> PairCount {
+        debug_assert!(self.unread < Mail::LIMIT);
         self.unread += 1;
         self.waiting[receiver.index()].insert(sender);
         let queue = self.queue_mut(sender, receiver);
         debug_assert!(queue.counts[place as usize + 1..].iter().all(|&n| n == 0));
         queue.values.push_back(value);
         queue.counts[place as usize] += 1;
-        queue.values.len() as u32
+        queue.unread()
     }
 
     /// Takes out the first message of a pair in place order, and gives its
     /// value and how many the pair then has.
-    pub fn take_first(&mut self, sender: Rank, receiver: Rank) -> Option<(u32, u32)> {
+    pub fn take_first(&mut self, sender: Rank, receiver: Rank) -> Option<(u32, PairCount)> {
         let queue = self.queue_mut(sender, receiver);
         let value = queue.values.pop_front()?;
         let lowest = queue.counts.iter_mut().find(|count| **count > 0)?;
         *lowest -= 1;
-        let left = queue.values.len() as u32;
+        let left = queue.unread();
         self.unread -= 1;
         if left == 0 {
             self.waiting[receiver.index()].remove(sender);
@@ -154,7 +170,7 @@ impl Mail {
 
     /// Moves all messages of a pair at one place to another with nothing
     /// between, and gives how many moved.
-    pub fn shift(&mut self, sender: Rank, receiver: Rank, from: Place, to: Place) -> u32 {
+    pub fn shift(&mut self, sender: Rank, receiver: Rank, from: Place, to: Place) -> PairCount {
         self.queue_mut(sender, receiver).shift(from, to)
     }
 

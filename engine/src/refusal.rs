@@ -2,6 +2,8 @@
 //! and their numbers are the table of paper 01, "Where each step is checked",
 //! without 18: paper 02, Change 2, "Number 18 is given no more".
 
+use crate::mail::PairCount;
+
 /// v1, v2, v3: "the answer's values; an unnamed one is 0".
 pub type Values = [u32; 3];
 
@@ -117,4 +119,10 @@ pub fn number_of(answer: &Answer) -> u8 {
 /// The values that a printed run shows: zero on a refusal.
 pub fn values_of(answer: &Answer) -> Values {
     answer.unwrap_or([0; 3])
+}
+
+/// A pair's count as an answer and a printed run have it. The lower part hands
+/// it out in 16 bits, and it is widened here alone.
+pub fn count_value(count: PairCount) -> u32 {
+    u32::from(count)
 }

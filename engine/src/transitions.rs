@@ -6,7 +6,7 @@ use crate::desk::Desk;
 use crate::mail::Place;
 use crate::names::{Host, Rank, Vmid};
 use crate::record::Step;
-use crate::refusal::Values;
+use crate::refusal::{count_value, Values};
 use crate::snapshot::{Call, Standing};
 
 impl Desk {
@@ -75,7 +75,8 @@ impl Desk {
         } else {
             Place::CurrentLane
         };
-        [self.mail.append(a, b, value, place), 0, 0]
+        let unread = self.mail.append(a, b, value, place);
+        [count_value(unread), 0, 0]
     }
 
     fn take(&mut self, b: Rank, a: Rank) -> Values {
@@ -83,7 +84,7 @@ impl Desk {
             .mail
             .take_first(a, b)
             .expect("check 22: the pair has a message unread");
-        [value, left, 0]
+        [value, count_value(left), 0]
     }
 
     fn begin_move(&mut self, r: Rank, h: Host) -> Values {
@@ -119,7 +120,7 @@ impl Desk {
         self.notice[b.index()].remove(r);
         self.unheeded[r.index()].remove(b);
         self.marked[r.index()].insert(b);
-        [moved, 0, 0]
+        [count_value(moved), 0, 0]
     }
 
     fn drain(&mut self, r: Rank, s: Rank) -> Values {
@@ -140,7 +141,7 @@ impl Desk {
         let mut listed = 0;
         for s in self.mail.senders_to(r) {
             self.mail.shift(s, r, Place::MoverList, Place::CurrentList);
-            listed += u32::from(self.mail.counts(s, r)[Place::CurrentList as usize]);
+            listed += count_value(self.mail.counts(s, r)[Place::CurrentList as usize]);
         }
         [listed, 0, 0]
     }
@@ -154,7 +155,7 @@ impl Desk {
             .shift(a, b, Place::CurrentLane, Place::CurrentList);
         self.plain[a.index()].remove(b);
         self.plain[b.index()].remove(a);
-        [towards_a, towards_b, 0]
+        [count_value(towards_a), count_value(towards_b), 0]
     }
 
     fn end(&mut self, r: Rank) -> Values {

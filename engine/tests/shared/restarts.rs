@@ -1,7 +1,7 @@
 //! How often a run came into the situations of paper 02, Change 2: a rank moves
 //! to its present host, beside other moves and with messages to carry.
 
-use engine::{Desk, Host, Line, Mail, Rank, Standing, Step};
+use engine::{Desk, Host, Line, Mail, PairCount, Rank, Standing, Step};
 
 /// The counts, each of accepted moves to the rank's present host.
 #[derive(Clone, Debug, Default)]
@@ -14,7 +14,7 @@ pub struct Restarts {
     carrying_again: u64,
     /// For each receiver and sender, how many messages were unread at the
     /// receiver's last restart and still are.
-    carried: [[u32; Rank::COUNT]; Rank::COUNT],
+    carried: [[PairCount; Rank::COUNT]; Rank::COUNT],
 }
 
 impl Restarts {

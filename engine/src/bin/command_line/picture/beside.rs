@@ -3,7 +3,7 @@
 
 use crate::failure::Failure;
 use crate::steps::{Pair, Told};
-use engine::refusal::{number_of, values_of};
+use engine::refusal::{count_value, number_of, values_of};
 use engine::{Desk, Rank, Step};
 
 /// A desk of the second engine that takes the steps of a run.
@@ -58,7 +58,7 @@ impl Beside {
         let (sender, receiver) = (pair.sender, pair.receiver);
         let same = sender.in_range()
             && receiver.in_range()
-            && self.desk.mail().counts(sender, receiver).map(u32::from) == pair.counts;
+            && self.desk.mail().counts(sender, receiver).map(count_value) == pair.counts;
         same.then_some(()).ok_or_else(|| differs(&pair.to_string()))
     }
 
