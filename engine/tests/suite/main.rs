@@ -1,8 +1,10 @@
 //! The tests of the second engine, one module for each idea: paper 01's
 //! listing and edges, every refusal, soundness, order within pairs, and logs
-//! of any bytes and any length; paper 02's made-up passes and restarts.
+//! of any bytes and any length; paper 02's made-up passes, restarts and full
+//! pairs.
 
 mod edges;
+mod full_pair;
 mod listing;
 mod logs;
 mod long_input;
