@@ -6,7 +6,9 @@ use crate::expected::Expected;
 use crate::log::Log;
 use crate::program::{Input, Program};
 use crate::tally::Tally;
-use crate::{garbage, limits, made_up, paper, probes, random, restarts, short_records, window};
+use crate::{
+    full_pair, garbage, limits, made_up, paper, probes, random, restarts, short_records, window,
+};
 use engine::text::decode;
 use std::fs::{self, File};
 use std::path::{Path, PathBuf};
@@ -29,6 +31,7 @@ static LOGS: LazyLock<Vec<Log>> = LazyLock::new(|| {
         limits::logs(),
         window::logs(),
         made_up::logs(),
+        full_pair::logs(),
         probes::logs(),
         paper::logs(),
         restarts::logs(),

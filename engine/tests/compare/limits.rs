@@ -1,47 +1,9 @@
 //! Logs that reach a limit of paper 01: 1,024 messages unread, 65,535 numbers
 //! drawn on a host, and the ends of the range of a value.
 
-use crate::log::{log_of, Feed, Log};
+use crate::log::{log_of, sends, Feed, Log};
 
 const JOINED: &str = "start 0 0, start 1 1, call 0 1, route 0 1";
-
-/// So many sends with values that all differ.
-fn sends(sender: u8, receiver: u8, count: u32) -> Vec<u8> {
-    (0..count)
-        .flat_map(|index| {
-            let value = index.wrapping_mul(0x9E37_79B9);
-            log_of(&format!("send {sender} {receiver} {value}"))
-        })
-        .collect()
-}
-
-/// 1,024 of one pair; then room for one, and all taken.
-fn full_pair() -> Vec<u8> {
-    [
-        log_of(JOINED),
-        sends(0, 1, 1_024),
-        log_of("send 0 1 1, send 1 0 2, look 1, take 1 0, send 1 0 3, send 1 0 4, send 0 1 5"),
-        log_of("take 1 0").repeat(1_024),
-        log_of("take 0 1, take 0 1, look 0, look 1, send 0 1 6"),
-    ]
-    .concat()
-}
-
-/// 1,024 of one pair while the receiver moves: sends on the notice are
-/// refused, and every message goes by the mover's list.
-fn full_mover() -> Vec<u8> {
-    [
-        log_of(JOINED),
-        sends(0, 1, 1_000),
-        log_of("move 1 2"),
-        sends(0, 1, 30),
-        log_of("heed 0 1, call 0 1, route 0 1, route 0 1, send 0 1 1, land 1"),
-        log_of("drain 1 0").repeat(1_026),
-        log_of("land 1, send 0 1 2, take 1 0, send 0 1 3"),
-        log_of("take 1 0").repeat(1_025),
-    ]
-    .concat()
-}
 
 /// All ranks joined, messages in all 240 ordered pairs, then moves and parts,
 /// so that many pairs at all places are printed.
@@ -55,9 +17,9 @@ fn full_crowd() -> Vec<u8> {
         log.extend(log_of(&format!("call {b} {a}, route {b} {a}")));
     }
     for (a, b) in pairs().filter(|(a, b)| a != b) {
-        log.extend(sends(a, b, 4));
+        log.extend(sends(a, b, 0..4));
     }
-    log.extend(sends(15, 0, 65));
+    log.extend(sends(15, 0, 0..65));
     for (a, b) in pairs().filter(|(a, b)| a < b && (a + b) % 5 == 0) {
         log.extend(log_of(&format!("part {a} {b}")));
     }
@@ -122,8 +84,6 @@ pub fn logs() -> Vec<Log> {
     vec![
         Log::new("numbers-exhausted", exhausted(), Feed::File),
         Log::new("restarts-exhausted", exhausted_by_restarts(), Feed::File),
-        Log::new("full-pair", full_pair(), Feed::Pipe),
-        Log::new("full-mover", full_mover(), Feed::Pipe),
         Log::new("full-crowd", full_crowd(), Feed::Pipe),
         Log::new("values", values(), Feed::Pipe),
     ]

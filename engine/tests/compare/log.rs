@@ -4,6 +4,7 @@
 use engine::generate::{Generator, Mix};
 use engine::text::encode;
 use engine::{Desk, Step};
+use std::ops::Range;
 
 /// How a log comes to the program's standard input.
 #[derive(Clone, Copy, Debug)]
@@ -62,6 +63,18 @@ impl Log {
 /// The log of steps written as the paper writes them, "start 0 0, call 0 1".
 pub fn log_of(steps: &str) -> Vec<u8> {
     encode(&steps.replace(", ", "\n")).unwrap_or_else(|errors| panic!("{errors:?} of '{steps}'"))
+}
+
+/// The value of a pair's message by its index in the order of sending; all
+/// differ.
+pub fn value_of(index: u32) -> u32 {
+    index.wrapping_mul(0x9E37_79B9)
+}
+
+/// The sends of a pair's messages with these indices.
+pub fn sends(sender: u8, receiver: u8, indices: Range<u32>) -> Vec<u8> {
+    let steps = indices.map(|index| format!("send {sender} {receiver} {}", value_of(index)));
+    steps.flat_map(|step| log_of(&step)).collect()
 }
 
 /// Where the whole records of a log start, up to one that is none.

@@ -6,6 +6,7 @@
 mod alike;
 mod examples;
 mod expected;
+mod full_pair;
 mod garbage;
 mod limits;
 mod log;
