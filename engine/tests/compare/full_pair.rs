@@ -57,6 +57,8 @@ pub fn logs() -> Vec<Log> {
 mod tests {
     use super::scenarios::FULL;
     use super::{scripts, Script, PAIRS};
+    use crate::log::{Feed, Log};
+    use crate::tally::Tally;
     use engine::run_slice;
 
     fn all_scripts() -> impl Iterator<Item = (String, Script)> {
@@ -105,6 +107,18 @@ mod tests {
             let at_one_place = |place| std::array::from_fn(|p| if p == place { FULL } else { 0 });
             for counts in (0..4).map(at_one_place).chain([[FULL / 4; 4]]) {
                 assert!(shown.contains(&counts), "{sender} {receiver}: {counts:?}");
+            }
+        }
+    }
+
+    #[test]
+    fn every_situation_of_a_full_pair_comes_up() {
+        for (sender, receiver) in PAIRS {
+            let logs = scripts(sender, receiver);
+            let logs = logs.map(|(name, script)| Log::new(name, script.log, Feed::Pipe));
+            let tally = Tally::of(&logs.collect::<Vec<Log>>());
+            for (situation, count) in tally.situations.full_pairs.rows() {
+                assert!(count > 0, "{sender} {receiver}: no {situation}");
             }
         }
     }

@@ -1,9 +1,11 @@
 //! How often a run came into the situations of paper 01 that are easy to get
 //! wrong: overlapping moves, lines that are notices, calls that miss, limits;
-//! and into those of a restart.
+//! and into those of a restart and of a full pair.
 
+mod full_pairs;
 mod restarts;
 
+pub use full_pairs::FullPairs;
 pub use restarts::Restarts;
 
 use engine::{Desk, Kind, Line, Rank, Refusal, Step, Values};
@@ -23,6 +25,7 @@ pub struct Situations {
     routes_to_ended: u64,
     refused_full: u64,
     pub restarts: Restarts,
+    pub full_pairs: FullPairs,
 }
 
 impl Situations {
@@ -35,6 +38,7 @@ impl Situations {
         let checked = desk.check(step);
         if checked.is_ok() {
             self.restarts.note(desk, step);
+            self.full_pairs.note(desk, step);
         }
         match (step, checked) {
             (Step::Send { .. }, Err(Refusal::DeskFull)) => self.refused_full += 1,
@@ -91,6 +95,7 @@ impl Situations {
             ("routes to an ended rank", self.routes_to_ended),
             ("sends to a full desk", self.refused_full),
         ];
-        [&rows[..], &self.restarts.rows()].concat()
+        let (restarts, full_pairs) = (self.restarts.rows(), self.full_pairs.rows());
+        [&rows[..], &restarts, &full_pairs].concat()
     }
 }
