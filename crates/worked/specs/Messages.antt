@@ -66,6 +66,28 @@ pub messages-past-the-limit-is-unsound : sound messages-past-the-limit ≡ false
 unfolding openedMessages
 messages-past-the-limit-is-unsound = messages-unsound messages-past-the-limit refl
 
+-- "At most 1,024 messages stand."
+abbrev pub messages-of-one-pair-up-to-the-limit : State
+messages-of-one-pair-up-to-the-limit =
+    changed everything
+    (fresh ∷ drawn 0 1 ∷ drawn 1 1 ∷ running 0 0 1 ∷ running 1 1 1 ∷ tables 0 0 1 ∷ tables 1 1 1 ∷ plain 0 1 ∷ plain 1 0 ∷
+    messages 1024 0 1 3 59 ∷ [])
+
+pub messages-of-one-pair-up-to-the-limit-is-sound : sound messages-of-one-pair-up-to-the-limit ≡ true
+unfolding openedSound
+messages-of-one-pair-up-to-the-limit-is-sound = refl
+
+-- "At most 1,024 messages stand."
+abbrev pub messages-of-one-pair-past-the-limit : State
+messages-of-one-pair-past-the-limit =
+    changed everything
+    (fresh ∷ drawn 0 1 ∷ drawn 1 1 ∷ running 0 0 1 ∷ running 1 1 1 ∷ tables 0 0 1 ∷ tables 1 1 1 ∷ plain 0 1 ∷ plain 1 0 ∷
+    messages 1025 0 1 3 59 ∷ [])
+
+pub messages-of-one-pair-past-the-limit-is-unsound : sound messages-of-one-pair-past-the-limit ≡ false
+unfolding openedMessages
+messages-of-one-pair-past-the-limit-is-unsound = messages-unsound messages-of-one-pair-past-the-limit refl
+
 -- "Senders are started"
 abbrev pub sender-ended : State
 sender-ended = changed everything (message 4 3 2 60 ∷ [])
