@@ -41,6 +41,13 @@ fn take_all(desk: &mut Desk) {
     assert_eq!(desk.mail().unread(), 0);
 }
 
+/// Rank 1, whose mover has all in its list, lands and takes them.
+fn land_with_all(desk: &mut Desk) {
+    assert_eq!(answer(desk, "land 1"), Ok([1_024, 0, 0]));
+    assert_eq!(counts(desk), [0, 0, 1_024, 0]);
+    take_all(desk);
+}
+
 /// All are on the lane.
 fn full_lane() -> Desk {
     let mut desk = desk_after(JOINED);
@@ -110,9 +117,7 @@ fn a_move_takes_1024_from_the_lane_by_drains() {
         drain(&mut desk, 1_024..=1_024);
         assert_eq!(counts(&desk), [1_024, 0, 0, 0]);
         assert_eq!(answer(&mut desk, "drain 1 0"), Ok([1, 0, 0]));
-        assert_eq!(answer(&mut desk, "land 1"), Ok([1_024, 0, 0]));
-        assert_eq!(counts(&desk), [0, 0, 1_024, 0]);
-        take_all(&mut desk);
+        land_with_all(&mut desk);
     }
 }
 
@@ -123,9 +128,7 @@ fn a_move_takes_1024_from_the_list_at_once() {
         let mut desk = full_list();
         assert_eq!(answer(&mut desk, record), Ok(arrival));
         assert_eq!(counts(&desk), [1_024, 0, 0, 0]);
-        assert_eq!(answer(&mut desk, "land 1"), Ok([1_024, 0, 0]));
-        assert_eq!(counts(&desk), [0, 0, 1_024, 0]);
-        take_all(&mut desk);
+        land_with_all(&mut desk);
     }
 }
 
@@ -166,8 +169,7 @@ fn sends_on_a_notice_go_up_to_1024() {
     assert_eq!(answer(&mut desk, "drain 1 0"), Err(Refusal::NothingToDrain));
     assert_eq!(answer(&mut desk, "heed 0 1"), Ok([0, 0, 0]));
     assert_eq!(answer(&mut desk, "drain 1 0"), Ok([1, 0, 0]));
-    assert_eq!(answer(&mut desk, "land 1"), Ok([1_024, 0, 0]));
-    take_all(&mut desk);
+    land_with_all(&mut desk);
 }
 
 /// The receiver moves with 256 in its list and 256 on the lane; 256 go to the
