@@ -53,6 +53,7 @@ message = record { sender = rank 0; receiver = rank 1; value = 7; place = Channe
 abbrev laden : ℕ → State
 laden n = withUnread (record { messages = replicate n message; count = n }) joined
 
+-- A send can be made while fewer than 1,024 are unread.
 send-fits : (n : ℕ) → n < limit → SendFits (laden n) (rank 0) (rank 1)
 unfolding computed
 send-fits n room =
@@ -86,16 +87,19 @@ fills (suc k) n room h =
 abbrev filling : ℕ → List Reading
 filling n = readings joining ++ replicate n sending
 
+-- Before the sends nothing is unread.
 begins : after fresh (readings joining) ≡ laden 0
 unfolding computed
 begins = ap (λ (t : Account). t .end) (from-fresh (readings joining))
 
+-- Behind them as many messages are unread as were sent.
 leaves : (n : ℕ) → n ≤ limit → after fresh (filling n) ≡ laden n
 leaves n room =
     let start = rw begins at (sound-after (readings joining) fresh fresh-sound) in
     let sum : 0 + n ≡ n = omega arith in
     ap (λ (s : State). after s (replicate n sending)) begins ∙ fills n 0 (omega arith) start ∙ ap laden sum
 
+-- All of them are of the pair.
 of-the-pair : (n : ℕ) → select (between (rank 0) (rank 1)) (replicate n message) ≡ replicate n message
 of-the-pair zero = refl
 of-the-pair (suc n) = ap (λ (l : List Message). message ∷ l) (of-the-pair n)
@@ -109,6 +113,7 @@ pub none-leaves-more : (xs : List Reading) (a b : Rank)
     → unreadBetween a b (after fresh xs) ≤ unreadBetween (rank 0) (rank 1) (after fresh (filling limit))
 none-leaves-more xs a b = rw (counts-them-all limit (omega arith)) (count-never-passes xs a b)
 
+-- The same of 1,024 sends; and the state is sound.
 full-leaves : after fresh (filling limit) ≡ laden limit
 full-leaves = leaves limit (omega arith)
 
