@@ -3,7 +3,7 @@
 use mathlib.Core.Bool.{Bool, true, false, cond, _&&_, _||_}
 use mathlib.Core.List.{List, [], _∷_}
 use Prim.Native.Nat.{ℕ, zero, suc}
-use lib.Dec.{leb}
+use lib.Dec.{leb, ltb}
 use lib.ListN.{length}
 
 module _ {A : Type 0} where
@@ -44,6 +44,16 @@ module _ {A : Type 0} where
 abbrev pub neverFalls : List ℕ → Bool
 neverFalls [] = true
 neverFalls (x ∷ xs) = every (leb x) xs && neverFalls xs
+
+-- each number is above the one before it, the first above the least, and none above the most
+abbrev pub risesWithin : ℕ → ℕ → List ℕ → Bool
+risesWithin least most [] = true
+risesWithin least most (x ∷ xs) = ltb least x && leb x most && risesWithin x most xs
+
+-- the numbers from the first on, as many as are asked for
+unfoldable pub upFrom : ℕ → ℕ → List ℕ
+upFrom first zero = []
+upFrom first (suc n) = first ∷ upFrom (suc first) n
 
 -- f 0, f 1, .. up to f (n - 1)
 unfoldable pub tabulate : {A : Type 0} → ℕ → (ℕ → A) → List A

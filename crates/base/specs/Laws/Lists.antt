@@ -233,3 +233,13 @@ module _ {A : Type 0} where
   pub changeFirst-other : (p q : A → Bool) (f : A → A) → ((x : A) → p (f x) ≡ p x) → ((x : A) → q x ≡ true → p x ≡ false)
       → (l : List A) → select p (changeFirst q f l) ≡ select p l
   changeFirst-other p q f kept apart l = changeFirst-none p q f kept l (none-of-other p q apart l)
+
+  -- Changing the first that passes q leaves what f gives of those that pass p, where neither sees the change.
+  pub changeFirst-unseen : {B : Type 0} (f : A → B) (p q : A → Bool) (g : A → A) → ((x : A) → f (g x) ≡ f x) → ((x : A) → p (g x) ≡ p x)
+      → (l : List A) → map f (select p (changeFirst q g l)) ≡ map f (select p l)
+  changeFirst-unseen f p q g same kept [] = refl
+  changeFirst-unseen f p q g same kept (x ∷ l) =
+      let rest = changeFirst-unseen f p q g same kept l in
+      by-test (q x)
+      (λ e. by-test (p x) (λ h. simp (e, kept x, h, same x)) (λ h. simp (e, kept x, h)))
+      (λ e. by-test (p x) (λ h. simp (e, h, rest)) (λ h. simp (e, h, rest)))
