@@ -17,4 +17,4 @@ slots t vs good = rw length-map at (good .1 .1 .0 .1 .0 .1)
 
 -- What a read past the slots would give.
 abbrev pub blank : Message
-blank = record { sender = record { 0 = 0 }; receiver = record { 0 = 0 }; value = 0; place = SourceList }
+blank = record { sender = record { 0 = 0 }; receiver = record { 0 = 0 }; value = 0; sequence = 0; place = SourceList }

@@ -1,4 +1,4 @@
--- The columns of the slots: what each number of the lent array is.
+-- The columns of the slots and the contents: what each number of the lent arrays is.
 -- Assumes nothing.
 use mathlib.Core.List.{List, [], _∷_}
 use Prim.Native.Nat.{ℕ, zero, suc, _+_}
@@ -50,6 +50,17 @@ TAIL = 6912
 abbrev pub UNREAD : ℕ
 UNREAD = 6913
 
+-- The array of the contents: the value of each slot's message, behind them its running number, and behind those how many messages each
+-- pair has sent.
+abbrev pub SEQUENCES : ℕ
+SEQUENCES = 2048
+
+abbrev pub SENT : ℕ
+SENT = 4096
+
+abbrev pub contentsLength : ℕ
+contentsLength = 4352
+
 -- how long the columns are: three of each slot, three of each pair
 abbrev pub sizes : List ℕ
 sizes = SLOTS ∷ SLOTS ∷ SLOTS ∷ cells ∷ cells ∷ cells ∷ []
@@ -82,6 +93,10 @@ named l t n = record {
 -- the columns of the lent array
 unfoldable pub columnsOf : List ℕ → Columns
 columnsOf s = named (parts sizes s) (getD s TAIL 0) (getD s UNREAD 0)
+
+-- how many messages each pair has sent
+unfoldable pub sentIn : List ℕ → List ℕ
+sentIn contents = drop SENT contents
 
 -- The columns with one of them changed.
 module _ (c : Columns) where

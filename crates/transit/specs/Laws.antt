@@ -12,6 +12,7 @@ pub mod Messages
 pub mod Earliest
 pub mod Left
 pub mod Mail
+pub mod Sent
 pub mod Places
 pub mod Passes
 pub mod Search

@@ -2,7 +2,7 @@
 -- Assumes nothing.
 use mathlib.Core.Bool.{Bool, _&&_}
 use mathlib.Core.List.{List, _++_}
-use Prim.Native.Nat.{ℕ}
+use Prim.Native.Nat.{ℕ, _+_, _*_}
 use lib.Dec.{eqb, ltb}
 use Rattle.base.specs.Lists.{select}
 use Rattle.transit.specs.declared.Message.{Message}
@@ -25,6 +25,10 @@ rank n = record { 0 = n }
 
 abbrev pub isRank : Rank → Bool
 isRank r = ltb (r .0) ranks
+
+-- the number of the pair from a to b, among sixteen rows of sixteen
+abbrev pub pairOf : Rank → Rank → ℕ
+pairOf a b = ranks * a .0 + b .0
 
 -- "a place: 0 mover's list, 1 lane to the mover, 2 list of the current end, 3 lane to the current end"
 abbrev pub placeNumber : Place → ℕ
@@ -59,7 +63,7 @@ between a b m = sameRank (m .sender) a && to b m
 
 -- the same message at another place
 abbrev pub relabelled : Place → Message → Message
-relabelled p m = record { sender = m .sender; receiver = m .receiver; value = m .value; place = p }
+relabelled p m = record { sender = m .sender; receiver = m .receiver; value = m .value; sequence = m .sequence; place = p }
 
 -- the messages that a selection picks
 abbrev pub picks : Selection → Message → Bool

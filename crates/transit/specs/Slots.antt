@@ -2,40 +2,41 @@
 -- Assumes nothing.
 use mathlib.Core.Bool.{Bool, cond, _&&_}
 use mathlib.Core.List.{List, [], _∷_}
-use Prim.Native.Nat.{ℕ, suc, _+_, _*_, _/_, _%_}
+use Prim.Native.Nat.{ℕ, suc, _+_, _/_, _%_}
 use lib.Dec.{eqb, ltb}
 use lib.ListN.{getD}
-use Rattle.transit.specs.Columns.{Columns}
+use Rattle.transit.specs.Columns.{Columns, SEQUENCES}
 use Rattle.transit.specs.Message.{ranks, cells}
 use Rattle.transit.specs.declared.Message.{Message}
 use Rattle.transit.specs.declared.Place.{Place}
 use Rattle.transit.specs.declared.Place.the-variants.{SourceList, SourceChannel, EndList, Channel}
-use Rattle.transit.specs.declared.Rank.{Rank}
 
 -- what the live slots hold, in order: a slot whose number is not that of a pair is dead
 abbrev pub held : {A : Type 0} → (ℕ → ℕ → A) → ℕ → List ℕ → List A
 held f i [] = []
 held f i (p ∷ ps) = cond (ltb p cells) (f i p ∷ held f (suc i) ps) (held f (suc i) ps)
 
--- the number of the pair from a to b
-abbrev pub pairOf : Rank → Rank → ℕ
-pairOf a b = ranks * a .0 + b .0
-
 -- the place of a number
 abbrev pub placeOf : ℕ → Place
 placeOf n = cond (eqb n 0) SourceList (cond (eqb n 1) SourceChannel (cond (eqb n 2) EndList Channel))
 
--- the message of a pair, at the place of a number, with a value
-abbrev pub messageOf : ℕ → ℕ → ℕ → Message
-messageOf p n v = record { sender = record { 0 = p / ranks }; receiver = record { 0 = p % ranks }; place = placeOf n; value = v }
+-- the message of a pair, at the place of a number, with a value and a running number
+abbrev pub messageOf : ℕ → ℕ → ℕ → ℕ → Message
+messageOf p n v k = record {
+  sender = record { 0 = p / ranks };
+  receiver = record { 0 = p % ranks };
+  place = placeOf n;
+  value = v;
+  sequence = k;
+}
 
 -- the message of a slot of a pair
 abbrev pub messageAt : List ℕ → List ℕ → ℕ → ℕ → Message
-messageAt places values i p = messageOf p (getD places i 0) (getD values i 0)
+messageAt places contents i p = messageOf p (getD places i 0) (getD contents i 0) (getD contents (SEQUENCES + i) 0)
 
 -- the messages of the live slots, in order
 abbrev pub messagesOf : Columns → List ℕ → List Message
-messagesOf c values = held (messageAt (c .places) values) 0 (c .pairs)
+messagesOf c contents = held (messageAt (c .places) contents) 0 (c .pairs)
 
 -- both ranks of the message are below sixteen
 abbrev pub ranked : Message → Bool

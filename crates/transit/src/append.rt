@@ -1,17 +1,21 @@
-// A message sent: it stands behind all others.
+// A message sent: it stands behind all others, with the next number of its pair.
 ghost use Prim.Native.Nat.{_<_};
 ghost use lib.ListN.{length};
+ghost use Rattle.transit.specs.Columns.{sentIn};
 ghost use Rattle.transit.specs.Mail.{Mail, messagesIn, Appended, Roomy};
 ghost use Rattle.transit.specs.Message.{ranks};
-ghost use Rattle.transit.specs.Unread.{limit};
+ghost use Rattle.transit.specs.Unread.{limit, sentAt, mostSent};
 use crate::Contents;
 use crate::Count;
 use crate::Message;
+use crate::Place;
+use crate::Rank;
 use crate::Slots;
 use crate::layout::NONE;
 use crate::layout::TAIL;
 use crate::load::load;
 use crate::load::unload;
+use crate::sent::count_one;
 use crate::tail::put;
 
 // Where the tail has come to the end, the messages go to the front.
@@ -27,14 +31,34 @@ fn make_room(slots: &mut Slots, contents: &mut Contents)
     load(t, slots, contents);
 }
 
-// The message is unread, behind all others; how many of its pair are unread then.
-pub fn append(m: Message, slots: &mut Slots, contents: &mut Contents) -> Count
+// A message from `a` to `b` is unread, behind all others; how many of its pair are unread then.
+pub fn append(
+    a: Rank,
+    b: Rank,
+    place: Place,
+    value: u32,
+    slots: &mut Slots,
+    contents: &mut Contents,
+) -> Count
     requires { ⌜ Mail (now slots) (now contents) ⌝ }
     requires { ⌜ length (messagesIn (now slots) (now contents)) < limit ⌝ }
-    requires { ⌜ m .sender .0 < ranks ⌝ }
-    requires { ⌜ m .receiver .0 < ranks ⌝ }
-    ensures { λ n. ⌜ Appended m (now (slots .entry)) (now (contents .entry)) n (now (slots .exit)) (now (contents .exit)) ⌝ }
+    requires { ⌜ a .0 < ranks ⌝ }
+    requires { ⌜ b .0 < ranks ⌝ }
+    requires { ⌜ sentAt a b (sentIn (now contents)) < mostSent ⌝ }
+    ensures { λ n. ⌜ Appended a b place value (now (slots .entry)) (now (contents .entry)) n
+        (now (slots .exit)) (now (contents .exit)) ⌝ }
 {
     make_room(slots, contents);
-    put(m, slots, contents)
+    let sequence = count_one(a, b, contents);
+    put(
+        Message {
+            sender: a,
+            receiver: b,
+            place: place,
+            value: value,
+            sequence: sequence,
+        },
+        slots,
+        contents,
+    )
 }

@@ -16,6 +16,7 @@ use crate::Slots;
 use crate::layout::FIRST;
 use crate::layout::NONE;
 use crate::layout::PLACES;
+use crate::layout::SEQUENCES;
 use crate::layout::SLOTS;
 use crate::layout::message_of;
 use crate::layout::pair_of;
@@ -37,7 +38,12 @@ pub fn first_at(a: Rank, b: Rank, place: Place, slots: &Slots, contents: &Conten
     let number = place.number();
     let at = seek(pair, number as u16, slots);
     if at < SLOTS {
-        let m = message_of(slots[at], slots[PLACES + at], contents[at]);
+        let m = message_of(
+            slots[at],
+            slots[PLACES + at],
+            contents[at],
+            contents[SEQUENCES + at],
+        );
         return Found::First(m);
     }
     Found::Nothing
@@ -70,7 +76,12 @@ pub fn first_to(r: Rank, slots: &Slots, contents: &Contents) -> Found
     }
     let at = wide(oldest(r.0 as usize, slots));
     if at < SLOTS {
-        let m = message_of(slots[at], slots[PLACES + at], contents[at]);
+        let m = message_of(
+            slots[at],
+            slots[PLACES + at],
+            contents[at],
+            contents[SEQUENCES + at],
+        );
         return Found::First(m);
     }
     Found::Nothing

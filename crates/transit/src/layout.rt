@@ -1,8 +1,8 @@
-// Where the columns of the slots start, the numbers that stand for nothing, and the numbers of pairs and places.
+// Where the columns of the slots and of the contents start, the numbers that stand for nothing, and the numbers of pairs and places.
 ghost use mathlib.Core.Path.{_≡_};
 ghost use Prim.Native.Nat.{_<_};
-ghost use Rattle.transit.specs.Message.{ranks, cells};
-ghost use Rattle.transit.specs.Slots.{pairOf, placeOf, messageOf};
+ghost use Rattle.transit.specs.Message.{ranks, cells, pairOf};
+ghost use Rattle.transit.specs.Slots.{placeOf, messageOf};
 use crate::Message;
 use crate::Place;
 use crate::RANKS;
@@ -27,6 +27,11 @@ pub const COUNT: usize = 6656;
 pub const TAIL: usize = 6912;
 
 pub const UNREAD: usize = 6913;
+
+// The contents, behind the values at 0: each slot's running number, and how many messages each pair has sent.
+pub const SEQUENCES: usize = 2048;
+
+pub const SENT: usize = 4096;
 
 // The number of no pair: a slot that has it is dead.
 pub const DEAD: u16 = 256;
@@ -70,9 +75,9 @@ fn place_of(n: u16) -> Place
 }
 
 // The message of a slot of a pair.
-pub fn message_of(pair: u16, place: u16, value: u32) -> Message
+pub fn message_of(pair: u16, place: u16, value: u32, sequence: u32) -> Message
     requires { ⌜ pair < cells ⌝ }
-    ensures { λ r. ⌜ r ≡ messageOf pair place value ⌝ }
+    ensures { λ r. ⌜ r ≡ messageOf pair place value sequence ⌝ }
 {
     let from = (pair / ROW) as u8;
     let to = (pair % ROW) as u8;
@@ -81,6 +86,7 @@ pub fn message_of(pair: u16, place: u16, value: u32) -> Message
         sender: Rank(from),
         receiver: Rank(to),
         value: value,
+        sequence: sequence,
         place: at,
     }
 }

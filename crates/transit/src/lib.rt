@@ -1,4 +1,4 @@
-// The unread messages of a broker: one list in order of sending, each message with its place.
+// The unread messages of a broker: one list in order of sending, each message with its place and its running number.
 // Paper 01: "The places of messages are kept by a lower part that knows no step kinds." This crate is that part.
 ghost use mathlib.Core.Path.{_≡_};
 ghost use Rattle.transit.specs.Message.{placeNumber};
@@ -12,6 +12,7 @@ pub mod load;
 mod pick;
 pub mod relabel;
 pub mod remove;
+pub mod sent;
 mod tail;
 mod walk;
 
@@ -27,7 +28,7 @@ pub const CELLS: usize = 256;
 // How long the two arrays are that a run works on.
 pub const SLOTS_LENGTH: usize = 6914;
 
-pub const CONTENTS_LENGTH: usize = 2048;
+pub const CONTENTS_LENGTH: usize = 4352;
 
 // How many messages of a pair are unread, or of another selection. Paper 02, change 3: "it is to be counted, kept and handed out there in
 // 16 bits."
@@ -45,12 +46,14 @@ pub enum Place {
     Channel,
 }
 
-// An unread message.
+// An unread message. Its running number is paper 02's, change 4: "The number of a message within its ordered pair, from 1 in order of
+// sending, is now kept with the message".
 pub struct Message {
     pub sender: Rank,
     pub receiver: Rank,
     pub place: Place,
     pub value: u32,
+    pub sequence: u32,
 }
 
 // Which messages a routine is about.
@@ -67,17 +70,19 @@ pub enum Found {
     Nothing,
 }
 
-// The messages as they are handed over and saved: in the first `count` slots, in order of sending. The other slots mean nothing.
+// The messages as they are handed over and saved: in the first `count` slots, in order of sending. The other slots mean nothing. And how
+// many messages each ordered pair has sent, row after row.
 pub struct Transit {
     pub messages: [Message; Transit::LIMIT],
     pub count: usize,
+    pub sent: [u32; CELLS],
 }
 
 // The messages as a run works on them: 2,048 slots in order of sending, of which those are dead whose message has left. The columns
 // are each slot's pair, place and next slot of the pair, each pair's first slot, last slot and count, the tail and the number unread.
 pub type Slots = [u16; SLOTS_LENGTH];
 
-// The value of each slot's message.
+// The value of each slot's message and its running number, and how many messages each pair has sent.
 pub type Contents = [u32; CONTENTS_LENGTH];
 
 impl Rank {
@@ -103,6 +108,9 @@ impl Transit {
     // Paper 01: "At most 1,024 are unread in the whole desk."
     pub const LIMIT: usize = 1024;
 
+    // Paper 02, change 4: "28 for a send when the pair has already sent 4,294,967,295".
+    pub const MOST_SENT: u32 = 4294967295;
+
     // Nothing sent yet.
     pub fn fresh() -> Self
         ensures { λ r. ⌜ unreadOf r ≡ nothing ⌝ }
@@ -111,11 +119,13 @@ impl Transit {
             sender: Rank(0),
             receiver: Rank(0),
             value: 0,
+            sequence: 0,
             place: Place::EndList,
         };
         Transit {
             messages: [unused; Transit::LIMIT],
             count: 0,
+            sent: [0; CELLS],
         }
     }
 }

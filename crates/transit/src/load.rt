@@ -5,7 +5,7 @@ ghost use mathlib.Core.Path.{_≡_};
 ghost use Prim.Native.Nat.{ℕ, _≤_};
 ghost use lib.ListN.{length};
 ghost use Rattle.base.specs.Lists.{every};
-ghost use Rattle.transit.specs.Columns.{SLOTS, slotsLength};
+ghost use Rattle.transit.specs.Columns.{sentIn, slotsLength, contentsLength};
 ghost use Rattle.transit.specs.Mail.{Mail, unreadIn, Loaded};
 ghost use Rattle.transit.specs.Slots.{ranked};
 ghost use Rattle.transit.specs.Unread.{unreadOf, limit};
@@ -18,16 +18,20 @@ use crate::layout::DEAD;
 use crate::layout::FIRST;
 use crate::layout::NONE;
 use crate::layout::PLACES;
+use crate::layout::SEQUENCES;
 use crate::layout::SLOTS;
 use crate::layout::TAIL;
 use crate::layout::UNREAD;
 use crate::layout::message_of;
+use crate::sent::counts_in;
+use crate::sent::keep_counts;
 use crate::tail::put;
 
 // No message is unread.
-pub fn clear(slots: &mut Slots)
+fn empty(slots: &mut Slots)
     requires { ⌜ length (now slots) ≡ slotsLength ⌝ }
-    ensures { λ _. ⌜ ((contents : List ℕ) → length contents ≡ SLOTS → Loaded [] (now (slots .exit)) contents) ⌝ }
+    ensures { λ _. ⌜ ((contents : List ℕ) → length contents ≡ contentsLength
+        → Loaded [] (sentIn contents) (now (slots .exit)) contents) ⌝ }
 {
     let mut i: usize = 0;
     while i < SLOTS {
@@ -44,15 +48,25 @@ pub fn clear(slots: &mut Slots)
     slots[UNREAD] = 0;
 }
 
+// No message is unread, and each pair has sent as many as the counts say.
+pub fn clear(counts: [u32; CELLS], slots: &mut Slots, contents: &mut Contents)
+    requires { ⌜ length (now slots) ≡ slotsLength ⌝ }
+    requires { ⌜ length (now contents) ≡ contentsLength ⌝ }
+    ensures { λ _. ⌜ Loaded [] counts (now (slots .exit)) (now (contents .exit)) ⌝ }
+{
+    empty(slots);
+    keep_counts(counts, contents);
+}
+
 // The messages of a value stand in the slots, packed to the front.
 pub fn load(t: Transit, slots: &mut Slots, contents: &mut Contents)
     requires { ⌜ length (now slots) ≡ slotsLength ⌝ }
-    requires { ⌜ length (now contents) ≡ SLOTS ⌝ }
+    requires { ⌜ length (now contents) ≡ contentsLength ⌝ }
     requires { ⌜ t .count ≤ limit ⌝ }
     requires { ⌜ every ranked (unreadOf t .messages) ≡ true ⌝ }
-    ensures { λ _. ⌜ Loaded (unreadOf t .messages) (now (slots .exit)) (now (contents .exit)) ⌝ }
+    ensures { λ _. ⌜ Loaded (unreadOf t .messages) (t .sent) (now (slots .exit)) (now (contents .exit)) ⌝ }
 {
-    clear(slots);
+    clear(t.sent, slots, contents);
     let end = t.count;
     let mut i: usize = 0;
     while i < end {
@@ -74,13 +88,19 @@ pub fn unload_into(t: Transit, slots: &Slots, contents: &Contents) -> Transit
     while i < end {
         let pair = slots[i];
         if pair < DEAD {
-            let m = message_of(pair, slots[PLACES + i], contents[i]);
+            let m = message_of(
+                pair,
+                slots[PLACES + i],
+                contents[i],
+                contents[SEQUENCES + i],
+            );
             value.messages[n] = m;
             n += 1;
         }
         i += 1;
     }
     value.count = n;
+    value.sent = counts_in(contents);
     value
 }
 

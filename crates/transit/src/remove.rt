@@ -11,12 +11,14 @@ use crate::layout::COUNT;
 use crate::layout::DEAD;
 use crate::layout::FIRST;
 use crate::layout::NEXT;
+use crate::layout::SEQUENCES;
 use crate::layout::UNREAD;
 use crate::layout::pair_of;
 
-// The value of the message that left, and how many of its pair are left.
+// The value and the running number of the message that left, and how many of its pair are left.
 pub struct Removed {
     pub value: u32,
+    pub sequence: u32,
     pub left: Count,
 }
 
@@ -26,11 +28,13 @@ pub fn remove(a: Rank, b: Rank, slots: &mut Slots, contents: &Contents) -> Remov
     requires { ⌜ a .0 < ranks ⌝ }
     requires { ⌜ b .0 < ranks ⌝ }
     requires { ⌜ 0 < tally (between a b) (messagesIn (now slots) (now contents)) ⌝ }
-    ensures { λ r. ⌜ Left a b (now (slots .entry)) (now (contents .entry)) (r .value) (r .left) (now (slots .exit)) ⌝ }
+    ensures { λ r. ⌜ Left a b (now (slots .entry)) (now (contents .entry)) (r .value) (r .sequence) (r .left)
+        (now (slots .exit)) ⌝ }
 {
     let pair = pair_of(a, b);
     let at = slots[FIRST + pair] as usize;
     let value = contents[at];
+    let sequence = contents[SEQUENCES + at];
     let next = slots[NEXT + at];
     let left = slots[COUNT + pair] - 1;
     let unread = slots[UNREAD] - 1;
@@ -40,6 +44,7 @@ pub fn remove(a: Rank, b: Rank, slots: &mut Slots, contents: &Contents) -> Remov
     slots[UNREAD] = unread;
     Removed {
         value: value,
+        sequence: sequence,
         left: left,
     }
 }

@@ -3,7 +3,7 @@ ghost use mathlib.Core.Path.{_≡_};
 ghost use Prim.Native.Nat.{_<_, _+_};
 ghost use lib.ListN.{length};
 ghost use Rattle.transit.specs.Columns.{columnsOf, SLOTS};
-ghost use Rattle.transit.specs.Mail.{Mail, messagesIn, Appended};
+ghost use Rattle.transit.specs.Mail.{Mail, messagesIn, Put};
 ghost use Rattle.transit.specs.Message.{ranks};
 ghost use Rattle.transit.specs.Unread.{limit};
 use crate::Contents;
@@ -16,6 +16,7 @@ use crate::layout::LAST;
 use crate::layout::NEXT;
 use crate::layout::NONE;
 use crate::layout::PLACES;
+use crate::layout::SEQUENCES;
 use crate::layout::TAIL;
 use crate::layout::UNREAD;
 use crate::layout::pair_of;
@@ -27,7 +28,7 @@ pub fn put(m: Message, slots: &mut Slots, contents: &mut Contents) -> Count
     requires { ⌜ length (messagesIn (now slots) (now contents)) < limit ⌝ }
     requires { ⌜ m .sender .0 < ranks ⌝ }
     requires { ⌜ m .receiver .0 < ranks ⌝ }
-    ensures { λ n. ⌜ Appended m (now (slots .entry)) (now (contents .entry)) n (now (slots .exit)) (now (contents .exit)) ⌝ }
+    ensures { λ n. ⌜ Put m (now (slots .entry)) (now (contents .entry)) n (now (slots .exit)) (now (contents .exit)) ⌝ }
     ensures further { λ n. ⌜ columnsOf (now (slots .exit)) .tail ≡ columnsOf (now (slots .entry)) .tail + 1 ⌝ }
 {
     let sender = m.sender;
@@ -42,6 +43,7 @@ pub fn put(m: Message, slots: &mut Slots, contents: &mut Contents) -> Count
     let more = slots[COUNT + pair] + 1;
     let at = tail as usize;
     contents[at] = m.value;
+    contents[SEQUENCES + at] = m.sequence;
     slots[at] = pair as u16;
     slots[PLACES + at] = number as u16;
     slots[NEXT + at] = NONE;

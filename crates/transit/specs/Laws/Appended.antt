@@ -1,4 +1,4 @@
--- A message put at the tail: eight stores in the slots, one in the contents.
+-- A message put at the tail: eight stores in the slots, two in the contents.
 -- Assumes nothing.
 use mathlib.Core.Bool.{true}
 use mathlib.Core.List.{List, [], _∷_, _++_}
@@ -22,14 +22,14 @@ use Rattle.transit.specs.Columns.{
   COUNT,
   TAIL,
   UNREAD,
+  SEQUENCES,
   SLOTS,
   slotsLength,
 }
 use Rattle.transit.specs.Index.{Sizes}
 use Rattle.base.specs.Lists.{tally}
-use Rattle.transit.specs.Mail.{messagesIn, Mail, Appended}
-use Rattle.transit.specs.Message.{between, placeNumber, ranks, cells}
-use Rattle.transit.specs.Slots.{pairOf}
+use Rattle.transit.specs.Mail.{messagesIn, Mail, Put}
+use Rattle.transit.specs.Message.{between, placeNumber, ranks, cells, pairOf}
 use Rattle.transit.specs.Unread.{limit}
 use Rattle.transit.specs.declared.Message.{Message}
 use Rattle.transit.specs.Laws.Columns.{
@@ -52,6 +52,7 @@ use Rattle.transit.specs.Laws.Mail.{count-in, count-limit, unread-in}
 use Rattle.transit.specs.Laws.Messages.{pair-small, put-messages}
 use Rattle.base.specs.Laws.Lists.{tally-append}
 use Rattle.transit.specs.Laws.Order.{place-below-four}
+use Rattle.transit.specs.Laws.Sent.{sent-before}
 use Rattle.transit.specs.Laws.Put.{filled, Joined, joined-first, joined-behind, last-inside, put-index}
 use Rattle.base.specs.Laws.Stores.{read-set}
 use Rattle.base.specs.Laws.Tests.{both}
@@ -77,6 +78,10 @@ abbrev pub ended : List ℕ → List ℕ → ℕ → List ℕ
 ended s x p =
     let t = getD s TAIL 0 in
     set (set (set (set x (LAST + p) t) (COUNT + p) (getD s (COUNT + p) 0 + 1)) TAIL (t + 1)) UNREAD (getD s UNREAD 0 + 1)
+
+-- the contents after the stores of the message's value and running number
+abbrev pub filled-in : List ℕ → ℕ → Message → List ℕ
+filled-in v t m = set (set v t (m .value)) (SEQUENCES + t) (m .sequence)
 
 -- the slots between the two: the links joined, and nothing else changed since
 pub record Branched (s : List ℕ) (p n : ℕ) (x : List ℕ) : Type 0 where
@@ -163,14 +168,14 @@ module _ {s v : List ℕ} {m : Message} {p n : ℕ} (r : Room s v m p n) where
         rw (unread, tail, store-count x1 p k small, store-last x p t small, g .columns, count-at s p small, tail-is s, unread-is s)
 
     -- The message comes last.
-    put-same : messagesIn (ended s x p) (set v (getD s TAIL 0) (m .value)) ≡ messagesIn s v ++ (m ∷ [])
+    put-same : messagesIn (ended s x p) (filled-in v (getD s TAIL 0) m) ≡ messagesIn s v ++ (m ∷ [])
     unfolding messagesIn
     put-same =
         rw (ended-columns, ← tail-is s, r .of-pair, r .at-place)
         (put-messages v (g .next) (g .first) m (r .mail .index) sized (r .mail .contents-long) (r .room) (r .from) (r .to))
 
     -- The arrays hold what they must.
-    put-kept : Mail (ended s x p) (set v (getD s TAIL 0) (m .value))
+    put-kept : Mail (ended s x p) (filled-in v (getD s TAIL 0) m)
     put-kept =
         let c = columnsOf s in
         let d = r .mail in
@@ -191,13 +196,21 @@ module _ {s v : List ℕ} {m : Message} {p n : ℕ} (r : Room s v m p n) where
         }
 
     -- What is put.
-    pub has-put : Appended m s v (getD s (COUNT + p) 0 + 1) (ended s x p) (set v (getD s TAIL 0) (m .value))
+    pub has-put : Put m s v (getD s (COUNT + p) 0 + 1) (ended s x p) (filled-in v (getD s TAIL 0) m)
     has-put =
         let own = between (m .sender) (m .receiver) in
         let own-one : own m ≡ true = both (eq-eqb (m .sender .0) (m .sender .0) refl) (eq-eqb (m .receiver .0) (m .receiver .0) refl) in
         let one : tally own (m ∷ []) ≡ 1 = rw own-one in
         let were = rw (← r .of-pair) at (count-in (m .sender) (m .receiver) (r .mail) (r .from) (r .to)) in
-        record { kept = put-kept; same = put-same; pair = rw (put-same, tally-append) (omega (arith, were, one)) }
+        let t = getD s TAIL 0 in
+        record {
+          kept = put-kept;
+          same = put-same;
+          pair = rw (put-same, tally-append) (omega (arith, were, one));
+          counts =
+              sent-before (set v t (m .value)) (SEQUENCES + t) (m .sequence) (omega (arith, tail-inside))
+              ∙ sent-before v t (m .value) (omega (arith, tail-inside));
+        }
 
     -- The tail is one further.
     pub tail-further : columnsOf (ended s x p) .tail ≡ columnsOf s .tail + 1

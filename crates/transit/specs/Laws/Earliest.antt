@@ -7,7 +7,7 @@ use Prim.Native.Nat.{ℕ, _+_, _<_, _≤_}
 use native.Mathlib.Omega.{arith}
 use lib.ListN.{length, getD, set}
 use lib.Seq.{getD-set-same, getD-set-other}
-use Rattle.transit.specs.Columns.{columnsOf, withPlaces, PLACES, SLOTS, DEAD}
+use Rattle.transit.specs.Columns.{columnsOf, withPlaces, PLACES, SEQUENCES, SLOTS, DEAD}
 use Rattle.base.specs.Lists.{select, without, changeFirst}
 use Rattle.transit.specs.Mail.{messagesIn, Mail}
 use Rattle.transit.specs.Message.{placeNumber, relabelled, cells}
@@ -52,7 +52,8 @@ module _ {s v : List ℕ} {q : Message → Bool} {at : ℕ} (d : Mail s v) (x : 
     earliest-live = rw (pair-at s at inside) at (x .live inside)
 
     -- It holds the message that passes and was sent first.
-    pub earliest-found : head (select q (messagesIn s v)) ≡ First (messageOf (getD s at 0) (getD s (PLACES + at) 0) (getD v at 0))
+    pub earliest-found : head (select q (messagesIn s v)) ≡
+        First (messageOf (getD s at 0) (getD s (PLACES + at) 0) (getD v at 0) (getD v (SEQUENCES + at) 0))
     unfolding messagesIn
     earliest-found =
         rw (pair-at s at inside, place-at s at inside) at

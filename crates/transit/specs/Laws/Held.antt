@@ -25,7 +25,8 @@ module _ {A : Type 0} where
   held-dead f i (p ∷ ps) dead = rw (dead 0 (omega arith)) (held-dead f (suc i) ps (λ k h. dead (suc k) (omega arith)))
 
   -- Slots that hold the same hold the same list.
-  held-same : (f g : ℕ → ℕ → A) (i : ℕ) (ps : List ℕ) → ((k x : ℕ) → i ≤ k → k < i + length ps → g k x ≡ f k x) → held g i ps ≡ held f i ps
+  pub held-same : (f g : ℕ → ℕ → A) (i : ℕ) (ps : List ℕ) → ((k x : ℕ) → i ≤ k → k < i + length ps → g k x ≡ f k x)
+      → held g i ps ≡ held f i ps
   held-same f g i [] same = refl
   held-same f g i (p ∷ ps) same =
       rw (same i p (omega arith) (omega arith), held-same f g (suc i) ps (λ k x l h. same k x (omega arith) (omega arith)))

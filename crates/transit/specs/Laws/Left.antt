@@ -6,12 +6,11 @@ use Prim.Native.Nat.{ℕ, _+_, _-_, _<_, _≤_}
 use native.Mathlib.Omega.{arith}
 use borrow.Author.Tests.{eq-eqb, ne-eqb}
 use lib.ListN.{length, getD, set, length-set}
-use Rattle.transit.specs.Columns.{columnsOf, NEXT, FIRST, COUNT, UNREAD, SLOTS, DEAD}
+use Rattle.transit.specs.Columns.{columnsOf, NEXT, FIRST, COUNT, UNREAD, SEQUENCES, SLOTS, DEAD}
 use Rattle.base.specs.Lists.{tally, without}
 use Rattle.transit.specs.Mail.{messagesIn, Mail, Left}
-use Rattle.transit.specs.Message.{between, ranks, cells}
-use Rattle.transit.specs.Slots.{pairOf}
-use Rattle.transit.specs.Unread.{valueIn}
+use Rattle.transit.specs.Message.{between, ranks, cells, pairOf}
+use Rattle.transit.specs.Unread.{valueIn, sequenceIn}
 use Rattle.transit.specs.declared.Rank.{Rank}
 use Rattle.transit.specs.Laws.Columns.{
   column-sizes,
@@ -112,13 +111,15 @@ module _ {s v : List ℕ} (a b : Rank) (d : Mail s v) (small-a : a .0 < ranks) (
       }
 
   -- What has left.
-  pub has-left : Left a b s v (getD v (getD s (FIRST + pairOf a b) 0) 0) (getD s (COUNT + pairOf a b) 0 - 1) (without-first s (pairOf a b))
+  pub has-left : let at = getD s (FIRST + pairOf a b) 0 in
+      Left a b s v (getD v at 0) (getD v (SEQUENCES + at) 0) (getD s (COUNT + pairOf a b) 0 - 1) (without-first s (pairOf a b))
   has-left =
-      let found = ap valueIn (earliest-found d first-earliest first-inside) in
+      let found = earliest-found d first-earliest first-inside in
       let fewer = tally-without (between a b) (between a b) (λ x e. e) (messagesIn s v) some in
       record {
         kept = kept-left;
         same = same-left;
-        found = sym (rw (first-at s (pairOf a b) small) at found);
+        found = sym (rw (first-at s (pairOf a b) small) at (ap valueIn found));
+        numbered = sym (rw (first-at s (pairOf a b) small) at (ap sequenceIn found));
         pair = rw same-left (omega (arith, count-is));
       }

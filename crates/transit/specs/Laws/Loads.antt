@@ -5,7 +5,20 @@ use mathlib.Core.Path.{_≡_, refl, _∙_}
 use Prim.Native.Nat.{ℕ, _+_, _<_}
 use native.Mathlib.Omega.{arith}
 use lib.ListN.{length, getD, set, length-set}
-use Rattle.transit.specs.Columns.{columnsOf, withTail, withUnread, FIRST, COUNT, TAIL, UNREAD, SLOTS, DEAD, slotsLength}
+use Rattle.transit.specs.Columns.{
+  columnsOf,
+  sentIn,
+  withTail,
+  withUnread,
+  FIRST,
+  COUNT,
+  TAIL,
+  UNREAD,
+  SLOTS,
+  DEAD,
+  slotsLength,
+  contentsLength,
+}
 use Rattle.transit.specs.Mail.{messagesIn, Loaded}
 use Rattle.transit.specs.Slots.{messageAt}
 use Rattle.transit.specs.Laws.Columns.{column-sizes, store-pair, store-first, store-count, store-tail, store-unread}
@@ -60,9 +73,10 @@ module _ {s : List ℕ} {i p : ℕ} (e : Emptied s i p) where
       }
 
 -- Emptied slots hold no message.
-pub empty : {s : List ℕ} (v : List ℕ) → Emptied s SLOTS cells → length v ≡ SLOTS → Loaded [] (set (set s TAIL 0) UNREAD 0) v
+pub emptied : {s : List ℕ} (v : List ℕ) → Emptied s SLOTS cells → length v ≡ contentsLength
+    → Loaded [] (sentIn v) (set (set s TAIL 0) UNREAD 0) v
 unfolding messagesIn
-empty {s} v e long =
+emptied {s} v e long =
     let c = columnsOf s in
     let z = column-sizes s (e .long) in
     let stored : columnsOf (set (set s TAIL 0) UNREAD 0) ≡ withUnread (withTail c 0) 0 =
@@ -81,4 +95,5 @@ empty {s} v e long =
       };
       same = none;
       packed = rw stored;
+      counted = refl;
     }

@@ -11,8 +11,8 @@ use lib.ListN.{length, getD}
 use Rattle.transit.specs.Columns.{columnsOf, withPlaces, COUNT, UNREAD, SLOTS, slotsLength}
 use Rattle.base.specs.Lists.{select, tally, every}
 use Rattle.transit.specs.Mail.{messagesIn, Mail}
-use Rattle.transit.specs.Message.{sameRank, to, between, ranks, cells}
-use Rattle.transit.specs.Slots.{pairOf, ranked}
+use Rattle.transit.specs.Message.{sameRank, to, between, ranks, cells, pairOf}
+use Rattle.transit.specs.Slots.{ranked}
 use Rattle.transit.specs.Unread.{limit}
 use Rattle.transit.specs.declared.Message.{Message}
 use Rattle.transit.specs.declared.Rank.{Rank}

@@ -4,17 +4,17 @@ use mathlib.Core.Bool.{Bool, true}
 use mathlib.Core.List.{List, [], _∷_, _++_}
 use mathlib.Core.Logic.{_≢_}
 use mathlib.Core.Path.{_≡_, refl, sym, ap, _∙_}
-use Prim.Native.Nat.{ℕ, suc, _/_, _%_, _<_}
+use Prim.Native.Nat.{ℕ, suc, _+_, _/_, _%_, _<_}
 use native.Mathlib.Omega.{arith}
 use borrow.Author.Tests.{eq-eqb, ne-eqb, lt-ltb, le-ltb}
 use lib.Dec.{eqb}
-use lib.ListN.{length, getD, set}
+use lib.ListN.{length, getD, set, length-set}
 use lib.Seq.{getD-set-same, getD-set-other}
-use Rattle.transit.specs.Columns.{Columns, SLOTS}
+use Rattle.transit.specs.Columns.{Columns, SLOTS, SEQUENCES, contentsLength}
 use Rattle.transit.specs.Index.{slotsOf, Index, Sizes}
 use Rattle.base.specs.Lists.{tally, every}
-use Rattle.transit.specs.Message.{between, placeNumber, ranks, cells}
-use Rattle.transit.specs.Slots.{held, pairOf, placeOf, messageOf, messageAt, messagesOf, ranked}
+use Rattle.transit.specs.Message.{between, placeNumber, ranks, cells, pairOf}
+use Rattle.transit.specs.Slots.{held, placeOf, messageOf, messageAt, messagesOf, ranked}
 use Rattle.transit.specs.declared.Message.{Message}
 use Rattle.transit.specs.declared.Place.{Place}
 use Rattle.transit.specs.declared.Place.the-variants.{SourceList, SourceChannel, EndList, Channel}
@@ -53,8 +53,8 @@ module _ (a b : Rank) (small-a : a .0 < ranks) (small-b : b .0 < ranks) where
   pub pair-small : pairOf a b < cells
   pair-small = omega arith
 
-  -- A message is between two ranks if its slot is of their pair, whatever its place and value.
-  pub between-pair : (p : ℕ) → p < cells → between a b (messageOf p 0 0) ≡ eqb p (pairOf a b)
+  -- A message is between two ranks if its slot is of their pair, whatever else it is.
+  pub between-pair : (p : ℕ) → p < cells → between a b (messageOf p 0 0 0) ≡ eqb p (pairOf a b)
   between-pair p small =
       by-equal (p / ranks) (a .0)
       (λ e. by-equal (p % ranks) (b .0)
@@ -70,24 +70,31 @@ module _ (a b : Rank) (small-a : a .0 < ranks) (small-b : b .0 < ranks) where
       ∙ sym (held-tally (messageAt (c .places) values) (between a b) (pairOf a b) pair-small (λ k p h. between-pair p h) 0 (c .pairs))
 
 -- Where a slot is filled behind all others, its message comes last.
-pub put-messages : {c : Columns} (values next first : List ℕ) (m : Message) → Index c → Sizes c → length values ≡ SLOTS
+pub put-messages : {c : Columns} (contents next first : List ℕ) (m : Message) → Index c → Sizes c → length contents ≡ contentsLength
     → c .tail < SLOTS → m .sender .0 < ranks → m .receiver .0 < ranks
     → messagesOf
     (filled c (pairOf (m .sender) (m .receiver)) (set (c .places) (c .tail) (placeNumber (m .place))) next first)
-    (set values (c .tail) (m .value))
-    ≡ messagesOf c values ++ (m ∷ [])
-put-messages {c} values next first m x z long inside small-a small-b =
+    (set (set contents (c .tail) (m .value)) (SEQUENCES + c .tail) (m .sequence))
+    ≡ messagesOf c contents ++ (m ∷ [])
+put-messages {c} contents next first m x z long inside small-a small-b =
     let t = c .tail in
     let n = placeNumber (m .place) in
     let p = pairOf (m .sender) (m .receiver) in
-    let g = messageAt (set (c .places) t n) (set values t (m .value)) in
+    let valued = set contents t (m .value) in
+    let g = messageAt (set (c .places) t n) (set valued (SEQUENCES + t) (m .sequence)) in
+    let other : (k : ℕ) → k ≢ t → k ≢ SEQUENCES + t → getD (set valued (SEQUENCES + t) (m .sequence)) k 0 ≡ getD contents k 0 =
+    λ k ne far. getD-set-other valued (SEQUENCES + t) k (m .sequence) 0 far ∙ getD-set-other contents t k (m .value) 0 ne in
     let from : p / ranks ≡ m .sender .0 = omega arith in
     let to : p % ranks ≡ m .receiver .0 = omega arith in
     let place = getD-set-same (c .places) t n 0 (omega (arith, z .places-long)) in
-    let made : g t p ≡ m = rw (from, to, place, getD-set-same values t (m .value) 0 (omega arith), place-back (m .place)) in
-    held-put (messageAt (c .places) values) g t p (c .pairs) (omega (arith, z .pairs-long)) (omega arith)
+    let value : getD (set valued (SEQUENCES + t) (m .sequence)) t 0 ≡ m .value =
+    getD-set-other valued (SEQUENCES + t) t (m .sequence) 0 (λ e. omega (arith, e)) ∙ getD-set-same contents t (m .value) 0 (omega arith) in
+    let sequence = getD-set-same valued (SEQUENCES + t) (m .sequence) 0 (omega (arith, length-set contents t (m .value))) in
+    let made : g t p ≡ m = rw (from, to, place, value, sequence, place-back (m .place)) in
+    held-put (messageAt (c .places) contents) g t p (c .pairs) (omega (arith, z .pairs-long)) (omega arith)
     (λ k h b. x .dead k h (omega (arith, z .pairs-long)))
     (λ k q h.
     let ne : k ≢ t = (λ e. omega (arith, e)) in
-    rw (getD-set-other (c .places) t k n 0 ne, getD-set-other values t k (m .value) 0 ne))
-    ∙ ap (λ (y : Message). messagesOf c values ++ (y ∷ [])) made
+    let number = other (SEQUENCES + k) (λ e. omega (arith, e)) (λ e. omega (arith, e)) in
+    rw (getD-set-other (c .places) t k n 0 ne, other k ne (λ e. omega (arith, e)), number))
+    ∙ ap (λ (y : Message). messagesOf c contents ++ (y ∷ [])) made

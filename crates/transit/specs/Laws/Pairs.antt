@@ -17,13 +17,16 @@ use Rattle.transit.specs.declared.Selection.{Selection}
 use Rattle.base.specs.Laws.Tests.{by-test, both, both-left, both-right}
 use Rattle.base.specs.Laws.Lists.{select-append, length-changeFirst}
 
--- the values of a pair's unread messages, in order of sending
-abbrev pub values : Rank → Rank → List Message → List ℕ
-values a b l = map (λ m. m .value) (select (between a b) l)
+-- a number of each of a pair's unread messages, in order of sending
+abbrev pub ofPair : (Message → ℕ) → Rank → Rank → List Message → List ℕ
+ofPair f a b l = map f (select (between a b) l)
 
--- the numbers of their places, in order of sending
+-- the numbers of their places, and their running numbers
 abbrev pub places : Rank → Rank → List Message → List ℕ
-places a b l = map number (select (between a b) l)
+places = ofPair number
+
+abbrev pub sequences : Rank → Rank → List Message → List ℕ
+sequences = ofPair (λ m. m .sequence)
 
 -- Ranks are the same if their numbers are.
 same-rank : (a b c : Rank) → sameRank a b ≡ true → sameRank a c ≡ true → sameRank b c ≡ true
@@ -43,14 +46,15 @@ other-pair a b c d differ m of-pair =
 pub append-length : (l : List Message) (m : Message) → length (l ++ m ∷ []) ≡ suc (length l)
 append-length l m = rw length-append (omega arith)
 
--- The place of a message of the pair comes after the pair's places.
-pub append-places : (a b : Rank) (l : List Message) (m : Message) → between a b m ≡ true
-    → places a b (l ++ m ∷ []) ≡ places a b l ++ number m ∷ []
-append-places a b l m of-pair = rw (select-append, of-pair, map-append)
+-- The number of a message of the pair comes after the pair's numbers.
+pub append-own : (f : Message → ℕ) (a b : Rank) (l : List Message) (m : Message) → between a b m ≡ true
+    → ofPair f a b (l ++ m ∷ []) ≡ ofPair f a b l ++ f m ∷ []
+append-own f a b l m of-pair = rw (select-append, of-pair, map-append)
 
--- Any other message leaves the pair's places as they are.
-pub append-keeps-places : (a b : Rank) (l : List Message) (m : Message) → between a b m ≡ false → places a b (l ++ m ∷ []) ≡ places a b l
-append-keeps-places a b l m other = rw (select-append, other, append-nil)
+-- Any other message leaves the pair's numbers as they are.
+pub append-other : (f : Message → ℕ) (a b : Rank) (l : List Message) (m : Message) → between a b m ≡ false
+    → ofPair f a b (l ++ m ∷ []) ≡ ofPair f a b l
+append-other f a b l m other = rw (select-append, other, append-nil)
 
 -- A change of the place of the first that is selected keeps the count.
 pub firstTo-length : (s : Selection) (p : Place) (l : List Message) → length (firstTo s p l) ≡ length l

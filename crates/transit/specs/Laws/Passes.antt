@@ -76,12 +76,12 @@ pass-next {w} {to} {s} {s'} {i} {n} inside g =
     }
 
 module _ {s v : List ℕ} (d : Mail s v) (sel : Selection) (w : Pick) (top : w .high ≤ cells)
-    (agree : (p n x : ℕ) → p < cells → n < 4 → picks sel (messageOf p n x) ≡ picked w p n) where
+    (agree : (p n x k : ℕ) → p < cells → n < 4 → picks sel (messageOf p n x k) ≡ picked w p n) where
   -- A live slot is picked if its message is selected.
   here : (k : ℕ) → k < SLOTS → getD (columnsOf s .pairs) k 0 < cells
       → picks sel (messageAt (columnsOf s .places) v k (getD (columnsOf s .pairs) k 0))
       ≡ picked w (getD (columnsOf s .pairs) k 0) (getD (columnsOf s .places) k 0)
-  here k h live = agree _ _ _ live (d .placed k h live)
+  here k h live = agree _ _ _ _ live (d .placed k h live)
 
   -- As many of the first slots are picked as of their messages are selected.
   hits-held : (i : ℕ) → i ≤ SLOTS

@@ -6,9 +6,9 @@ use Prim.Native.Nat.{ℕ, _+_, _*_, _/_, _<_}
 use native.Mathlib.Omega.{arith}
 use borrow.Author.Tests.{eq-eqb, ne-eqb, le-leb, lt-leb, lt-ltb, le-ltb}
 use lib.Dec.{eqb}
-use Rattle.transit.specs.Message.{placeNumber, picks, ranks, cells}
+use Rattle.transit.specs.Message.{placeNumber, picks, ranks, cells, pairOf}
 use Rattle.transit.specs.Pick.{picked}
-use Rattle.transit.specs.Slots.{pairOf, placeOf, messageOf}
+use Rattle.transit.specs.Slots.{placeOf, messageOf}
 use Rattle.transit.specs.declared.Place.{Place}
 use Rattle.transit.specs.declared.Rank.{Rank}
 use Rattle.transit.specs.declared.Selection.the-variants.{ToAt, BetweenAt}
@@ -33,12 +33,12 @@ pickTo r place = record { low = 0; high = cells; receiver = r .0; place = placeN
 module _ (p n : ℕ) (small : p < cells) (place-small : n < 4) where
   -- A message of a pair at a place is in a slot of those numbers.
   pub picks-pair : (a b : Rank) (place : Place) → a .0 < ranks → b .0 < ranks
-      → picks (BetweenAt a b place) (messageOf p n 0) ≡ (eqb p (pairOf a b) && eqb n (placeNumber place))
+      → picks (BetweenAt a b place) (messageOf p n 0 0) ≡ (eqb p (pairOf a b) && eqb n (placeNumber place))
   picks-pair a b place small-a small-b = rw (between-pair a b small-a small-b p small, number-back n place-small)
 
   -- A pass over the slots of a pair at a place picks just those messages.
   pub picked-between : (a b : Rank) (place : Place) → a .0 < ranks → b .0 < ranks
-      → picks (BetweenAt a b place) (messageOf p n 0) ≡ picked (pickBetween a b place) p n
+      → picks (BetweenAt a b place) (messageOf p n 0 0) ≡ picked (pickBetween a b place) p n
   picked-between a b place small-a small-b =
       let low = ranks * a .0 in
       by-equal (p / ranks) (a .0)
@@ -48,5 +48,5 @@ module _ (p n : ℕ) (small : p < cells) (place-small : n < 4) where
       (λ above. rw (ne-eqb (p / ranks) (a .0) ne, le-leb low p above, le-ltb p (low + ranks) (omega (arith, ne)))))
 
   -- A pass over the slots of all pairs to a receiver at a place picks just those messages.
-  pub picked-to : (r : Rank) (place : Place) → picks (ToAt r place) (messageOf p n 0) ≡ picked (pickTo r place) p n
+  pub picked-to : (r : Rank) (place : Place) → picks (ToAt r place) (messageOf p n 0 0) ≡ picked (pickTo r place) p n
   picked-to r place = rw (number-back n place-small, le-leb 0 p (omega arith), lt-ltb p cells small)

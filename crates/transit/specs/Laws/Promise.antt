@@ -10,9 +10,10 @@ use Rattle.base.specs.Laws.Lists.{length-changeFirst}
 use Rattle.transit.specs.Laws.Operations.{appends, relabels, relabels-first}
 use Rattle.transit.specs.Laws.Removed.{removed-sent-first}
 use Rattle.base.specs.Lists.{select, tally, neverFalls}
+use Rattle.transit.specs.Columns.{sentIn}
 use Rattle.transit.specs.Mail.{messagesIn, unreadIn, Appended, Left, Relabelled, FirstRelabelled}
 use Rattle.transit.specs.Message.{number, between}
-use Rattle.transit.specs.Unread.{limit, head, appended, removed, relabelAll, relabelFirst}
+use Rattle.transit.specs.Unread.{limit, nextMessage, head, appended, removed, relabelAll, relabelFirst}
 use Rattle.transit.specs.declared.Message.{Message}
 use Rattle.transit.specs.declared.Place.{Place}
 use Rattle.transit.specs.declared.Rank.{Rank}
@@ -20,13 +21,14 @@ use Rattle.transit.specs.declared.Selection.{Selection}
 use Rattle.transit.specs.declared.Selection.the-variants.{Between}
 
 module _ {slots contents slots' : List ℕ} where
-  -- a message behind all others
-  pub appended-unread : {m : Message} {n : ℕ} {contents' : List ℕ} → Appended m slots contents n slots' contents'
-      → length (messagesIn slots contents) < limit → appended (unreadIn slots contents) m .unread ≡ unreadIn slots' contents'
-  appended-unread {m} x room =
+  -- a message behind all others, with the next number of its pair
+  pub appended-unread : {a b : Rank} {p : Place} {v n : ℕ} {contents' : List ℕ} → Appended a b p v slots contents n slots' contents'
+      → length (messagesIn slots contents) < limit → appended (unreadIn slots contents) a b p v .unread ≡ unreadIn slots' contents'
+  appended-unread {a} {b} {p} {v} x room =
       let l = messagesIn slots contents in
+      let m = nextMessage a b p v (sentIn contents) in
       let long : length l + 1 ≡ length (l ++ (m ∷ [])) = omega (arith, length-append l (m ∷ [])) in
-      rw (appends (unreadIn slots contents) m room, x .same, long)
+      rw (appends (unreadIn slots contents) a b p v room, x .same, x .counts, long)
 
   -- the selected messages at a place
   pub relabelled-unread : {s : Selection} {p : Place} {n : ℕ} → Relabelled s p slots contents n slots'
@@ -39,7 +41,7 @@ module _ {slots contents slots' : List ℕ} where
   first-relabelled-unread {s} {p} x = rw (relabels-first s (unreadIn slots contents) p, x .same, length-changeFirst)
 
   -- the pair's first message has left: where places never fall, that is the first in place order
-  pub left-unread : {a b : Rank} {value rest : ℕ} → Left a b slots contents value rest slots'
+  pub left-unread : {a b : Rank} {value sequence rest : ℕ} → Left a b slots contents value sequence rest slots'
       → 0 < tally (between a b) (messagesIn slots contents)
       → neverFalls (map number (select (between a b) (messagesIn slots contents))) ≡ true
       → removed (Between a b) (unreadIn slots contents)

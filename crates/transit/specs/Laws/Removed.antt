@@ -16,9 +16,9 @@ use Rattle.base.specs.Laws.Lists.{without-narrower}
 -- Where the places of the selected messages never fall, the one that was sent first leaves.
 pub removed-sent-first : (s : Selection) (u : Unread) (m : Message) (rest : List Message)
     → neverFalls (map number (select (picks s) (u .messages))) ≡ true → select (picks s) (u .messages) ≡ m ∷ rest
-    → removed s u ≡ record { found = First m; unread = counted (without (picks s) (u .messages)) }
+    → removed s u ≡ record { found = First m; unread = counted (u .sent) (without (picks s) (u .messages)) }
 unfolding removed
 removed-sent-first s u m rest rises first =
     ap (λ (o : List Message). leave s u (head o)) (place-order-is-list-order s (u .messages) rises ∙ first) ∙
-    ap {B = AfterRemove} (λ l. record { found = First m; unread = counted l })
+    ap {B = AfterRemove} (λ l. record { found = First m; unread = counted (u .sent) l })
     (without-narrower (picks s) (at (m .place)) (u .messages) m rest first (eq-eqb (number m) (number m) refl))

@@ -10,9 +10,8 @@ use lib.ListN.{length, getD, set, length-set}
 use Rattle.transit.specs.Columns.{Columns, columnsOf, PLACES, NEXT, FIRST, SLOTS}
 use Rattle.transit.specs.Index.{Next, Index}
 use Rattle.transit.specs.Mail.{messagesIn, Mail, FirstRelabelled}
-use Rattle.transit.specs.Message.{placeNumber, picks, relabelled, ranks, cells}
+use Rattle.transit.specs.Message.{placeNumber, picks, relabelled, ranks, cells, pairOf}
 use Rattle.transit.specs.Search.{Walked, Reached}
-use Rattle.transit.specs.Slots.{pairOf}
 use Rattle.transit.specs.Unread.{firstTo}
 use Rattle.transit.specs.declared.Place.{Place}
 use Rattle.transit.specs.declared.Rank.{Rank}

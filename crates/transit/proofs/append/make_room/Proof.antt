@@ -12,7 +12,7 @@ use Rattle.transit.proofs.append.make_room.Tie as tie
 returns : tie.Need-returns
 returns c =
     let start = c .before .before in
-    record { kept = start .pre; same = refl; room = omega (arith, tail-is (start .args .slots .now), c .if1 .taken) }
+    record { kept = start .pre; same = refl; counts = refl; room = omega (arith, tail-is (start .args .slots .now), c .if1 .taken) }
 
 load-requires : tie.Need-load-requires
 load-requires c κs =
@@ -32,6 +32,7 @@ returns-2 c =
     record {
       kept = held .kept;
       same = held .same ∙ list;
+      counts = held .counted ∙ ap (λ (u : Unread). u .sent) (unloaded .unload .ensures);
       room = omega (arith, held .packed, ap length list, start .pre .few);
     }
 

@@ -16,7 +16,7 @@ returns c =
     λ v d.
     rw (c .before .before .number .ensures) at (c .count-hits .ensures)
     ∙ (hits-tally d (BetweenAt (a .a) (a .b) (a .place)) (pickBetween (a .a) (a .b) (a .place)) (omega arith)
-    (λ p n _ live placed. picked-between p n live placed (a .a) (a .b) (a .place) (pre .0) (pre .1)))
+    (λ p n _ _ live placed. picked-between p n live placed (a .a) (a .b) (a .place) (pre .0) (pre .1)))
 
 pub count-at-spec : {M : Type 1} → statement M
 count-at-spec =

@@ -15,7 +15,7 @@ returns c =
     λ v d.
     rw (c .before .before .number .ensures) at (c .count-hits .ensures)
     ∙ hits-tally d (ToAt (a .r) (a .place)) (pickTo (a .r) (a .place)) (omega arith)
-    (λ p n _ live placed. picked-to p n live placed (a .r) (a .place))
+    (λ p n _ _ live placed. picked-to p n live placed (a .r) (a .place))
 
 pub count-to-spec : {M : Type 1} → statement M
 count-to-spec =

@@ -36,13 +36,13 @@ returns-2 c =
 
 message-of-requires : tie.Need-message-of-requires
 message-of-requires c κs =
-    let h = c .before .before .before .before in
+    let h = c .before .before .before .before .before in
     let start = h .before .before .before .before .before .before .before in
     earliest-live (start .pre) (is-earliest h) (omega arith)
 
 returns-3 : tie.Need-returns-3
 returns-3 c =
-    let h = c .before .before .before .before .before in
+    let h = c .before .before .before .before .before .before in
     let start = h .before .before .before .before .before .before .before in
     rw (c .message-of .ensures) (sym (earliest-found (start .pre) (is-earliest h) (omega arith)))
 
@@ -55,4 +55,4 @@ pub first-at-spec : {M : Type 1} → statement M
 first-at-spec =
     tie.close (tie.spec returns returns-2 (λ c. search needs) (λ c. search needs) (λ c. search needs) (λ c. search needs)
     (λ c. search needs) (λ c. search needs) (λ c. search needs) (λ c. search needs) (λ c. search needs) (λ c. search needs)
-    (λ c. search needs) message-of-requires returns-3 returns-4)
+    (λ c. search needs) (λ c. search needs) (λ c. search needs) (λ c. search needs) message-of-requires returns-3 returns-4)

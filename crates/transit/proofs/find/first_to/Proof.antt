@@ -27,13 +27,13 @@ returns c =
 
 message-of-requires : tie.Need-message-of-requires
 message-of-requires c κs =
-    let h = c .before .before .before .before in
+    let h = c .before .before .before .before .before in
     let start = h .before .before .before .before .before in
     earliest-live (start .pre) (is-earliest h) (omega arith)
 
 returns-2 : tie.Need-returns-2
 returns-2 c =
-    let h = c .before .before .before .before .before in
+    let h = c .before .before .before .before .before .before in
     let start = h .before .before .before .before .before in
     rw (c .message-of .ensures) (sym (earliest-found (start .pre) (is-earliest h) (omega arith)))
 
@@ -45,5 +45,5 @@ returns-3 c =
 pub first-to-spec : {M : Type 1} → statement M
 first-to-spec =
     tie.close (tie.spec returns (λ c. search needs) (λ c. search needs) (λ c. search needs) (λ c. search needs) (λ c. search needs)
-    (λ c. search needs) (λ c. search needs) (λ c. search needs) (λ c. search needs) (λ c. search needs) message-of-requires returns-2
-    returns-3)
+    (λ c. search needs) (λ c. search needs) (λ c. search needs) (λ c. search needs) (λ c. search needs)
+    (λ c. search needs) (λ c. search needs) (λ c. search needs) message-of-requires returns-2 returns-3)

@@ -20,19 +20,19 @@ use Rattle.transit.proofs.load.load.Tie as tie
 use Rattle.transit.specs.Message.{ranks}
 
 abbrev Inv-loop : tie.InvT-loop
-Inv-loop slots₀ contents₀ t end i₀ slots contents i = (i ≤ end) × Loaded (take i (unreadOf t .messages)) slots contents
+Inv-loop slots₀ contents₀ t end i₀ slots contents i = (i ≤ end) × Loaded (take i (unreadOf t .messages)) (t .sent) slots contents
 
 abbrev μ-loop : tie.MeasureT-loop
 μ-loop slots₀ contents₀ t end i₀ slots contents i = end - i
 
 -- The next message: its ranks, and the messages up to it.
 next-one : (h : tie.At-loop Inv-loop μ-loop) →
-    let t = h .before .before .before .args .t1 in
+    let t = h .before .before .before .before .before .args .t1 in
     let i = h .loop .i in
     i < t .count → (getD (t .messages) i blank .sender .0 < ranks) × (getD (t .messages) i blank .receiver .0 < ranks)
     × (take (i + 1) (unreadOf t .messages) ≡ take i (unreadOf t .messages) ++ (getD (t .messages) i blank ∷ []))
 next-one h before =
-    let start = h .before .before .before in
+    let start = h .before .before .before .before .before in
     let t = start .args .t1 in
     let i = h .loop .i in
     let l = unreadOf t .messages in
@@ -46,12 +46,12 @@ next-one h before =
     )
 
 loop-holds : tie.Need-loop-holds Inv-loop μ-loop
-loop-holds c = (omega arith, c .clear .ensures (c .before .before .args .contents .now) (c .before .before .pre .1 .0))
+loop-holds c = (omega arith, c .clear .ensures)
 
 put-requires : tie.Need-put-requires Inv-loop μ-loop
 put-requires c κs =
     let h = c .before .before .before .before in
-    let start = h .before .before .before in
+    let start = h .before .before .before .before .before in
     let n = next-one h (omega arith) in
     let held = h .loop .inv .1 in
     let few = length-take (h .loop .i) (unreadOf (start .args .t1) .messages) in
@@ -64,18 +64,25 @@ loop-again c =
     let n = next-one h (omega arith) in
     let held = h .loop .inv .1 in
     let put = c .put .ensures in
-    let longer = simp length-append at (ap length (n .2)) in
-    (omega arith, record { kept = put .0 .kept; same = put .0 .same ∙ rw (held .same, n .2); packed = omega (arith, put .1, held .packed) })
+    let longer = simp length-append at (ap length (n .2)) in (
+      omega arith,
+      record {
+        kept = put .0 .kept;
+        same = put .0 .same ∙ rw (held .same, n .2);
+        packed = omega (arith, put .1, held .packed);
+        counted = put .0 .counts ∙ held .counted;
+      },
+    )
 
 returns : tie.Need-returns Inv-loop μ-loop
 returns c =
     let h = c .before in
-    let t = h .before .before .before .args .t1 in
+    let t = h .before .before .before .before .before .args .t1 in
     let l = unreadOf t .messages in
     let all : take (h .loop .i) l ≡ l = take-all (h .loop .i) l (omega (arith, length-take (t .count) (t .messages))) in
     rw all at (h .loop .inv .1)
 
 pub load-spec : {M : Type 1} → statement M
 load-spec =
-    tie.close (tie.spec Inv-loop μ-loop (λ c κs. c .before .pre .0) loop-holds (λ c. search needs) (λ c. search needs) put-requires
+    tie.close (tie.spec Inv-loop μ-loop (λ c κs. search needs) loop-holds (λ c. search needs) (λ c. search needs) put-requires
     (λ c. search needs) (λ c. search needs) loop-again returns)

@@ -51,10 +51,10 @@ message-room : tie.Need-mul-m Inv-loop μ-loop × tie.Need-element-set-from-m In
 message-room = ((λ c. omega (arith, inside c)), (λ c. omega (arith, inside c)), λ c. omega (arith, inside c))
   where
     inside : (c : tie.After-message-of Inv-loop μ-loop) →
-        let loop = c .before .before .before .before .before .before in
+        let loop = c .before .before .before .before .before .before .before in
         loop .loop .n < 1024
     inside c =
-        let loop = c .before .before .before .before .before .before in
+        let loop = c .before .before .before .before .before .before .before in
         room loop (omega arith) (omega arith)
 
 loop-again : tie.Need-loop-again Inv-loop μ-loop
@@ -75,7 +75,7 @@ loop-again c =
     (λ w.
     let more = held-live f (cols .pairs) i fits (omega (arith, pair, w .0 .taken)) in
     let fits-t : n < length (t .messages) = omega (arith, room head (omega arith) (w .0 .taken), inv .2) in
-    rw (w .4, w .5, w .3 .ensures, more) (
+    rw (w .5, w .6, w .4 .ensures, more) (
       omega arith,
       inv .1,
       length-set (t .messages) n _ ∙ inv .2,
@@ -88,8 +88,9 @@ loop-again c =
 returns : tie.Need-returns Inv-loop μ-loop
 unfolding messagesIn
 returns c =
-    let here = c .before .loop in
-    let start = c .before .before .before in
+    let head = c .before .before in
+    let here = head .loop in
+    let start = head .before .before in
     let s = start .args .slots .now in
     let d = start .pre in
     let cols = columnsOf s in
@@ -97,11 +98,13 @@ returns c =
     let end : here .i ≡ cols .tail = omega (arith, tail-is s) in
     let long = column-sizes s (d .slots-long) .pairs-long in
     let all = held-all f (cols .pairs) (cols .tail) (λ k past h. d .index .dead k past (omega arith)) in
-    rw (rw (end, all) at (here .inv .4), rw (end, all) at (here .inv .3))
+    rw (rw (end, all) at (here .inv .4), rw (end, all) at (here .inv .3), c .counts-in .ensures (d .contents-long))
 
 pub unload-into-spec : {M : Type 1} → statement M
 unload-into-spec =
     tie.close (tie.spec Inv-loop μ-loop (λ c. search needs) (λ c. omega (arith, tail-within c))
     (λ c. (omega arith, tail-within c, slots (c .before .args .t) _ (c .before .good .0), refl, refl)) (λ c. search needs)
     (λ c. search needs) (λ c. search needs) (λ c. search needs) (λ c. search needs) (λ c. search needs) (λ c. search needs)
-    (λ c. search needs) (message-room .0) (message-room .1) (message-room .2) (λ c. search needs) (λ c. search needs) loop-again returns)
+    (λ c. search needs) (λ c. search needs) (λ c. search needs) (λ c. search needs) (message-room .0)
+    (message-room .1) (message-room .2) (λ c. search needs) (λ c. search needs) loop-again
+    (λ c κs. search needs) returns)

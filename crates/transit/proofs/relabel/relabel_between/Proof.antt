@@ -15,7 +15,7 @@ returns c =
     let pre = start .pre in
     λ v d.
     pass-end d (BetweenAt (a .a) (a .b) (a .from)) (pickBetween (a .a) (a .b) (a .from)) (omega arith)
-    (λ p n _ live placed. picked-between p n live placed (a .a) (a .b) (a .from) (pre .0) (pre .1))
+    (λ p n _ _ live placed. picked-between p n live placed (a .a) (a .b) (a .from) (pre .0) (pre .1))
     (a .to)
     (rw (numbered .before .number .ensures, numbered .number2 .ensures) at (c .pass .ensures (d .slots-long)))
 

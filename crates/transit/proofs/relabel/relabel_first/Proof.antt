@@ -2,8 +2,7 @@
 use Rattle.transit.specs.Columns.{columnsOf}
 use Rattle.transit.specs.Index.{Index}
 use Rattle.transit.specs.Search.{Reached}
-use Rattle.transit.specs.Message.{placeNumber}
-use Rattle.transit.specs.Slots.{pairOf}
+use Rattle.transit.specs.Message.{placeNumber, pairOf}
 use Rattle.transit.specs.Laws.Search.{first-changed, first-unchanged}
 use borrow.Author.Needs.{needs}
 use Rattle.transit.proofs.relabel.relabel_first.Statement.{statement}

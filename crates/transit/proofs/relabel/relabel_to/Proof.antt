@@ -14,7 +14,7 @@ returns c =
     let a = start .args in
     λ v d.
     pass-end d (ToAt (a .r) (a .from)) (pickTo (a .r) (a .from)) (omega arith)
-    (λ p n _ live placed. picked-to p n live placed (a .r) (a .from))
+    (λ p n _ _ live placed. picked-to p n live placed (a .r) (a .from))
     (a .to)
     (rw (numbered .before .number .ensures, numbered .number2 .ensures) at (c .pass .ensures (d .slots-long)))
 

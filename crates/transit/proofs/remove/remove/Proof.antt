@@ -20,10 +20,10 @@ inside h =
 one-less : tie.Need-sub-left × tie.Need-sub-unread
 one-less = (
   (λ c.
-      let paired = c .before .before .before .before in
+      let paired = c .before .before .before .before .before in
       omega (arith, inside paired .1)),
   (λ c.
-      let paired = c .before .before .before .before .before in
+      let paired = c .before .before .before .before .before .before in
       omega (arith, inside paired .2)),
 )
 
@@ -31,16 +31,16 @@ one-less = (
 written : tie.Need-mul-slots × tie.Need-element-write-slots
 written = (
   (λ c.
-      let paired = c .before .before .before .before .before in
+      let paired = c .before .before .before .before .before .before in
       omega (arith, inside paired .0)),
   (λ c.
-      let paired = c .before .before .before .before .before in
+      let paired = c .before .before .before .before .before .before in
       omega (arith, inside paired .0)),
 )
 
 returns : tie.Need-returns
 returns c =
-    let h = c .before .before .before .before .before in
+    let h = c .before .before .before .before .before .before in
     let a = h .before .args in
     let pre = h .before .pre in
     rw (h .pair-of .ensures) (has-left (a .a) (a .b) (pre .0) (pre .1 .0) (pre .1 .1 .0) (pre .1 .1 .1))
@@ -50,6 +50,16 @@ remove-spec =
     tie.close (tie.spec (λ c. search needs) (λ c. search needs) (λ c. search needs) (λ c. search needs)
     (λ c. omega (arith, inside (c .before) .0)) (λ c. omega (arith, inside (c .before) .0)) (λ c. omega (arith, inside (c .before) .0))
     (λ c. omega (arith, inside (c .before .before) .0)) (λ c. omega (arith, inside (c .before .before) .0))
-    (λ c. omega (arith, inside (c .before .before) .0)) (λ c. search needs) (λ c. search needs) (λ c. search needs) (one-less .0)
+    (λ c. omega (arith, inside (c .before .before) .0))
+    (λ c.
+    let paired = c .before .before .before in
+    omega (arith, inside paired .0))
+    (λ c.
+    let paired = c .before .before .before in
+    omega (arith, inside paired .0))
+    (λ c.
+    let paired = c .before .before .before in
+    omega (arith, inside paired .0))
+    (λ c. search needs) (λ c. search needs) (λ c. search needs) (one-less .0)
     (λ c. search needs) (one-less .1) (written .0) (written .1) (λ c. search needs) (λ c. search needs) (λ c. search needs)
     (λ c. search needs) (λ c. search needs) (λ c. search needs) (λ c. search needs) returns)

@@ -58,6 +58,7 @@ put-spec =
     tie.close (tie.spec (λ c. search needs) (λ c. search needs) (λ c. search needs) (λ c. search needs) (λ c. search needs)
     (λ c. search needs) (λ c. search needs) (λ c. search needs) (λ c. search needs) (λ c. search needs) (λ c. search needs)
     (λ c. search needs) (λ c. search needs) (λ c. omega (arith, counts-few (room c) .0)) (λ c. omega (arith, tail-inside (room c)))
+    (λ c. omega (arith, tail-inside (room c))) (λ c. omega (arith, tail-inside (room c))) (λ c. omega (arith, tail-inside (room c)))
     (λ c. omega (arith, tail-inside (room c))) (λ c. omega (arith, tail-inside (room c))) (λ c. search needs)
     (λ c. omega (arith, tail-inside (room c))) (λ c. omega (arith, tail-inside (room c))) (λ c. search needs)
     (λ c. omega (arith, tail-inside (room c))) (λ c. omega (arith, tail-inside (room c))) (λ c. omega (arith, tail-inside (room c)))
