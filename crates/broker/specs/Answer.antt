@@ -1,4 +1,4 @@
--- Paper 01's number and values of an answer. Paper 01, "Where each step is checked"; paper 02, change 2.
+-- Paper 01's number and values of an answer. Paper 01, "Where each step is checked"; paper 02, changes 2 and 4.
 -- Assumes nothing.
 use mathlib.Core.List.{List, [], _∷_}
 use mathlib.Core.Path.{_≡_}
@@ -32,6 +32,7 @@ use Rattle.broker.specs.declared.answer.Refusal.the-variants.{
   UnreadLeft,
   Full,
   NumbersSpent,
+  SequenceSpent,
 }
 
 -- the number of each row of the table of checks
@@ -60,6 +61,7 @@ refusalNumber NothingUnread = 22
 refusalNumber UnreadLeft = 23
 refusalNumber Full = 24
 refusalNumber NumbersSpent = 25
+refusalNumber SequenceSpent = 28
 
 -- the printed number: "0 when accepted"
 abbrev pub number : Answer → ℕ

@@ -1,5 +1,5 @@
--- The table of checks, a predicate for each row from 4 to 17 and from 19 to 25 as the table words it, and the first row that applies.
--- Paper 01, "Where each step is checked"; paper 02, change 2: "Number 18 is given no more". Assumes nothing.
+-- The table of checks, a predicate for each row from 4 to 17, from 19 to 25 and 28 as the table words it, and the first row that applies.
+-- Paper 01, "Where each step is checked"; paper 02, change 2: "Number 18 is given no more"; and change 4. Assumes nothing.
 use mathlib.Core.Bool.{Bool, not, cond, _&&_, _||_}
 use mathlib.Core.List.{List, [], _∷_}
 use mathlib.Core.Option.{Option, none, some}
@@ -7,9 +7,10 @@ use Prim.Native.Nat.{ℕ}
 use lib.Dec.{eqb, leb, ltb}
 use Rattle.base.specs.Lists.{every, tally, anyOf}
 use Rattle.transit.specs.Message.{sameRank, between, to, at, isRank}
-use Rattle.transit.specs.Unread.{limit}
+use Rattle.transit.specs.Unread.{limit, mostSent}
 use Rattle.transit.specs.declared.Place.the-variants.{SourceChannel}
 use Rattle.broker.specs.Kind
+use Rattle.broker.specs.Messages.{sentBetween}
 use Rattle.broker.specs.Names.{
   hosts,
   numbers,
@@ -49,6 +50,7 @@ use Rattle.broker.specs.declared.answer.Refusal.the-variants.{
   UnreadLeft,
   Full,
   NumbersSpent,
+  SequenceSpent,
 }
 use Rattle.broker.specs.declared.record.Record.{Record}
 
@@ -161,6 +163,11 @@ unfoldable pub numbersSpent : State → Record → Bool
 numbersSpent s r =
     is (Kind.start ∷ Kind.move ∷ []) r && anyOf (λ h. leb numbers (drawnOn s h)) (namedHost r)
 
+-- Paper 02, change 4: "28 for a send when the pair has already sent 4,294,967,295, tested after 25"
+unfoldable pub sequenceSpent : State → Record → Bool
+sequenceSpent s r =
+    is (Kind.send ∷ []) r && anyOf (λ b. leb mostSent (sentBetween (firstRank r) b s)) (secondRank r)
+
 -- a row of the table: the refusal, and when it is given
 pub record Check : Type 0 where
   pub refusal : Refusal
@@ -189,7 +196,8 @@ checks =
     record { refusal = NothingUnread; given = nothingUnread } ∷
     record { refusal = UnreadLeft; given = unreadLeft } ∷
     record { refusal = Full; given = full } ∷
-    record { refusal = NumbersSpent; given = numbersSpent } ∷ []
+    record { refusal = NumbersSpent; given = numbersSpent } ∷
+    record { refusal = SequenceSpent; given = sequenceSpent } ∷ []
 
 -- the first row of a list that applies
 abbrev pub firstOf : List Check → State → Record → Option Refusal

@@ -1,4 +1,5 @@
--- Move, heed, drain and land: what each does to the state and answers. Paper 01, "The step log", kinds 06 to 09.
+-- Move, heed, drain and land: what each does to the state and answers. Paper 01, "The step log", kinds 06 to 09; paper 02,
+-- change 4.
 -- Assumes nothing.
 use mathlib.Core.Bool.{not}
 use mathlib.Core.List.{List}
@@ -86,10 +87,11 @@ heed b r s =
 abbrev pub onSourceChannel : Rank → Rank → Selection
 onSourceChannel p r = BetweenAt p r SourceChannel
 
--- "if s has messages to r at place 1, the first goes to 0, v1 is 0, v2 its value. Else a marked await becomes none, v1 is 1."
+-- "if s has messages to r at place 1, the first goes to 0, v1 is 0, v2 its value. Else a marked await becomes none, v1 is 1." Paper 02,
+-- change 4: "A take gives it as v3, and a drain that moves a message does too."
 abbrev pub drainFound : Rank → Rank → State → Found → Done
 drainFound r p s (First m) =
-    done (withUnread (relabelFirst (onSourceChannel p r) SourceList (s .unread)) s) 0 (m .value) 0
+    done (withUnread (relabelFirst (onSourceChannel p r) SourceList (s .unread)) s) 0 (m .value) (m .sequence)
 drainFound r p s Nothing = done (withLinks (await r p Clear (s .links)) s) 1 0 0
 
 unfoldable pub drain : Rank → Rank → State → Done

@@ -1,14 +1,16 @@
--- Soundness: named clauses for each sentence of paper 01, "Sound states", in three groups, and their conjunction.
+-- Soundness: named clauses for each sentence of paper 01, "Sound states", and of paper 02, change 4, in three groups, and their
+-- conjunction.
 -- Assumes nothing.
 use mathlib.Core.Bool.{Bool, true, not, cond, Bool·beq, _&&_, _||_}
 use mathlib.Core.List.{List, [], _∷_, map}
 use lib.Dec.{eqb, leb, ltb}
 use lib.ListN.{length}
-use Rattle.base.specs.Lists.{select, every, neverFalls}
+use Rattle.base.specs.Lists.{select, every, neverFalls, risesWithin}
 use Rattle.transit.specs.Message.{between, at, placeNumber, sameRank, isRank, ranks, cells}
 use Rattle.transit.specs.Unread.{limit}
 use Rattle.transit.specs.declared.Place.the-variants.{SourceList, SourceChannel, Channel}
 use Rattle.transit.specs.declared.Rank.{Rank}
+use Rattle.broker.specs.Messages.{sentBetween}
 use Rattle.broker.specs.Names.{
   hosts,
   numbers,
@@ -40,7 +42,8 @@ shaped s =
     eqb (length (s .processes)) ranks &&
     eqb (length (s .locations)) cells &&
     eqb (length (s .links)) cells &&
-    eqb (length (s .drawn)) hosts
+    eqb (length (s .drawn)) hosts &&
+    eqb (length (s .unread .sent)) cells
 
 -- The names: vmids, tables and calls.
 
@@ -174,9 +177,14 @@ placesFit s =
 unfoldable pub placesRise : State → Bool
 placesRise s = everyPair (λ a b. neverFalls (map (λ m. placeNumber (m .place)) (select (between a b) (messages s))))
 
+-- Paper 02, change 4: "Sound pairs have unread numbers rising within 1 to the count sent."
+unfoldable pub numbersRise : State → Bool
+numbersRise s =
+    everyPair (λ a b. risesWithin 0 (sentBetween a b s) (map (λ m. m .sequence) (select (between a b) (messages s))))
+
 unfoldable pub messagesSound : State → Bool
 messagesSound s =
-    fewUnread s && messagesNamed s && endsFit s && unheededPlaces s && placesFit s && placesRise s
+    fewUnread s && messagesNamed s && endsFit s && unheededPlaces s && placesFit s && placesRise s && numbersRise s
 
 -- "A state is sound when all of these hold."
 unfoldable pub sound : State → Bool

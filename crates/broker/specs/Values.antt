@@ -1,5 +1,5 @@
 -- What each kind of step answers: worked runs from the fresh state, with v1, v2 and v3 of the steps that they show and what must hold at
--- the end. Paper 01, "The step log". That they answer so is `Laws/Values`. Assumes nothing.
+-- the end. Paper 01, "The step log"; paper 02, change 4. That they answer so is `Laws/Values`. Assumes nothing.
 use mathlib.Core.Path.{_≡_}
 use mathlib.Core.Bool.{Bool, true, not, _&&_}
 use mathlib.Core.List.{List, [], _∷_, _++_}
@@ -105,7 +105,8 @@ send =
       then = unreadAre 3 (BetweenAt (rank 0) (rank 1) SourceChannel);
     }
 
--- 05: "v1 value, v2 unread of the pair afterwards"; "the value is four bytes, least significant first"
+-- 05: "v1 value, v2 unread of the pair afterwards"; "the value is four bytes, least significant first". Paper 02, change 4: "The number of
+-- a message within its ordered pair, from 1 in order of sending .. A take gives it as v3"
 abbrev pub take : Edge
 take =
     record {
@@ -116,11 +117,11 @@ take =
           sending 1 0 20 ∷
           sending 0 1 11 ∷
           sending 0 1 12 ∷
-          answers (Kind.take ∷ 1 ∷ 0 ∷ []) 0x04030201 2 0 ∷
-          answers (Kind.take ∷ 1 ∷ 0 ∷ []) 11 1 0 ∷
-          answers (Kind.take ∷ 1 ∷ 0 ∷ []) 12 0 0 ∷
+          answers (Kind.take ∷ 1 ∷ 0 ∷ []) 0x04030201 2 1 ∷
+          answers (Kind.take ∷ 1 ∷ 0 ∷ []) 11 1 2 ∷
+          answers (Kind.take ∷ 1 ∷ 0 ∷ []) 12 0 3 ∷
           refuses (Kind.take ∷ 1 ∷ 0 ∷ []) 22 ∷
-          answers (Kind.take ∷ 0 ∷ 1 ∷ []) 20 0 0 ∷ [];
+          answers (Kind.take ∷ 0 ∷ 1 ∷ []) 20 0 1 ∷ [];
       then = answered;
     }
 
@@ -170,7 +171,8 @@ heed =
       then = unreadAre 2 (BetweenAt (rank 1) (rank 0) EndList);
     }
 
--- 08: "the first goes to 0, v1 is 0, v2 its value. Else a marked await becomes none, v1 is 1."
+-- 08: "the first goes to 0, v1 is 0, v2 its value. Else a marked await becomes none, v1 is 1." Paper 02, change 4, of the running number:
+-- "a drain that moves a message does too", and one that finds the end marker gives 0
 abbrev pub drain : Edge
 drain =
     record {
@@ -181,8 +183,8 @@ drain =
           sending 0 1 11 ∷
           accepts (Kind.move ∷ 1 ∷ 6 ∷ []) ∷
           accepts (Kind.heed ∷ 0 ∷ 1 ∷ []) ∷
-          answers (Kind.drain ∷ 1 ∷ 0 ∷ []) 0 10 0 ∷
-          answers (Kind.drain ∷ 1 ∷ 0 ∷ []) 0 11 0 ∷
+          answers (Kind.drain ∷ 1 ∷ 0 ∷ []) 0 10 1 ∷
+          answers (Kind.drain ∷ 1 ∷ 0 ∷ []) 0 11 2 ∷
           answers (Kind.drain ∷ 1 ∷ 0 ∷ []) 1 0 0 ∷ [];
       then = answered;
     }

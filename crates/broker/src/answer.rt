@@ -1,4 +1,4 @@
-// The answer to a step. Paper 01, "Where each step is checked".
+// The answer to a step. Paper 01, "Where each step is checked"; paper 02, changes 2 and 4.
 ghost use mathlib.Core.Bool.{cond};
 ghost use mathlib.Core.Path.{_≡_};
 ghost use Prim.Native.Nat.{_+_, _<_};
@@ -6,7 +6,7 @@ ghost use lib.Dec.{ltb};
 ghost use Rattle.broker.specs.Answer.{refusalNumber, number, values, listed};
 use transit::Count;
 
-// Why a step is refused: the rows of the table of checks, numbers 1 to 17 and 19 to 25 in this order.
+// Why a step is refused: the rows of the table of checks, numbers 1 to 17, 19 to 25 and 28 in this order.
 pub enum Refusal {
     Unsound,
     UnknownKind,
@@ -32,6 +32,7 @@ pub enum Refusal {
     UnreadLeft,
     Full,
     NumbersSpent,
+    SequenceSpent,
 }
 
 pub enum Answer {
@@ -50,9 +51,9 @@ pub fn widened(n: Count) -> u32
 }
 
 impl Refusal {
-    // Its row in the table of checks, counted from 1 with 18 left out: up to there it is the number.
+    // Its row in the table of checks, counted from 1 with 18, 26 and 27 left out: up to 17 it is the number.
     fn row(self) -> u8
-        ensures { λ r. ⌜ (cond (ltb r 18) r (r + 1) ≡ refusalNumber self) × (r < 25) ⌝ }
+        ensures { λ r. ⌜ (cond (ltb r 18) r (cond (ltb r 25) (r + 1) (r + 3)) ≡ refusalNumber self) × (r < 26) ⌝ }
     {
         match self {
             Refusal::Unsound => 1,
@@ -79,6 +80,7 @@ impl Refusal {
             Refusal::UnreadLeft => 22,
             Refusal::Full => 23,
             Refusal::NumbersSpent => 24,
+            Refusal::SequenceSpent => 25,
         }
     }
 
@@ -90,7 +92,10 @@ impl Refusal {
         if row < 18 {
             return row;
         }
-        row + 1
+        if row < 25 {
+            return row + 1;
+        }
+        row + 3
     }
 }
 

@@ -9,13 +9,14 @@ use lib.Dec.{eqb, leb, ltb}
 use Rattle.base.specs.Laws.Tests.{both-left, both-right, not-both, or-false-left}
 use Rattle.base.specs.Lists.{tally}
 use Rattle.transit.specs.Message.{sameRank, between, to, at, isRank, ranks}
-use Rattle.transit.specs.Unread.{limit}
+use Rattle.transit.specs.Unread.{limit, mostSent}
 use Rattle.transit.specs.declared.Place.the-variants.{SourceChannel}
 use Rattle.transit.specs.declared.Rank.{Rank}
 use Rattle.broker.specs.Checks.{refusal}
 use Rattle.broker.specs.Laws.Checks.{passes}
 use Rattle.broker.specs.Laws.Opened.{openedChecks}
 use Rattle.broker.specs.Laws.Ranks.{everyRank-at}
+use Rattle.broker.specs.Messages.{sentBetween}
 use Rattle.broker.specs.Names.{
   hosts,
   numbers,
@@ -54,6 +55,7 @@ use Rattle.broker.specs.declared.answer.Refusal.the-variants.{
   UnreadLeft,
   Full,
   NumbersSpent,
+  SequenceSpent,
 }
 use Rattle.broker.specs.declared.link.Connection.{Connection}
 use Rattle.broker.specs.declared.link.Connection.the-variants.{Closed, Open, Closing}
@@ -141,6 +143,7 @@ pub record SendFits (s : State) (a b : Rank) : Type 0 where
   pub running : isRunning (status s a) ≡ true
   pub line : isClosed (connection s a b) ≡ false
   pub room : s .unread .count < limit
+  pub numbered : sentBetween a b s < mostSent
 
 pub record TakeFits (s : State) (b a : Rank) : Type 0 where
   pub two : Two s b a
@@ -266,6 +269,7 @@ send-fits s a b v accepted =
       running = running-of (status s a) (two .first-started) (passed HasEnded) (passed IsMigrating);
       line = or-none (isClosed (connection s a b)) (passed NotConnected);
       room = leb-false limit (s .unread .count) (passed Full);
+      numbered = leb-false mostSent (sentBetween a b s) (or-none (leb mostSent (sentBetween a b s)) (passed SequenceSpent));
     }
 
 pub take-fits : (s : State) (b a : Rank) → refusal s (Take b a) ≡ none → TakeFits s b a

@@ -75,6 +75,7 @@ send-accepted s a b v f =
       running-not-migrating (status s a) (f .running),
       f .line,
       lt-leb _ _ (f .room),
+      lt-leb _ _ (f .numbered),
     )
 
 pub take-accepted : (s : State) (b a : Rank) → TakeFits s b a → refusal s (Take b a) ≡ none

@@ -10,7 +10,7 @@ use Rattle.base.specs.Laws.Lists.{select-map}
 use Rattle.base.specs.Laws.Tests.{both, not-both}
 use Rattle.base.specs.Lists.{tally}
 use Rattle.transit.specs.Message.{between, to, ranks}
-use Rattle.transit.specs.Unread.{limit}
+use Rattle.transit.specs.Unread.{limit, mostSent, sentAt}
 use Rattle.transit.specs.declared.Message.{Message}
 use Rattle.transit.specs.declared.Rank.{Rank}
 use Rattle.broker.specs.Checks.{refusal}
@@ -43,6 +43,7 @@ use Rattle.broker.specs.Laws.Quiet.{Calm, AllQuiet, Moving, Calling, Joi
 use Rattle.broker.specs.Laws.Sound.{facts}
 use Rattle.broker.specs.Laws.State.{sameRank-self}
 use Rattle.broker.specs.Laws.View.{side, pairFits}
+use Rattle.broker.specs.Messages.{sentBetween}
 use Rattle.broker.specs.Names.{isStarted, isRunning, isMigrating, isLive, isEnded, isClosed, isClear}
 use Rattle.broker.specs.Sound.{sound}
 use Rattle.broker.specs.State.{State, status, request, connection, drawnOn, messages}
@@ -119,10 +120,14 @@ module _ (s x : State) (standing : core x .statuses ≡ core s .statuses) {q : R
 pub same-standings : {c d : Core} → c ≡ d → c .statuses ≡ d .statuses
 same-standings e = ap (λ (k : Core). k .statuses) e
 
--- Two states with the same core have the same numbers drawn, and as many messages that pass a test which does not see places.
+-- Two states with the same core have the same numbers drawn, the same counts sent, and as many messages that pass a test which does not
+-- see places.
 module _ (s x : State) (same : core x ≡ core s) where
   drawn-alike : (h : ℕ) → drawnOn x h ≡ drawnOn s h
   drawn-alike h = ap (λ (k : Core). getD (k .drawn) h 0) same
+
+  sent-alike : (a b : Rank) → sentBetween a b x ≡ sentBetween a b s
+  sent-alike a b = ap (λ (k : Core). sentAt a b (k .sent)) same
 
   tally-alike : (p : Message → Bool) → ((m : Message) → p (letter m) ≡ p m) → tally p (messages x) ≡ tally p (messages s)
   tally-alike p kept = sym (lettered (messages x)) ∙ ap (λ (k : Core). tally p (k .letters)) same ∙ lettered (messages s)
@@ -224,7 +229,9 @@ module _ (s : State) (a b : Rank) (v : ℕ) (p : refusal s (Send a b v) ≡ none
     pub send-again : Joined x a b → core x ≡ core s → sound x ≡ true → sound s ≡ true → refusal x (Send a b v) ≡ none
     send-again c same hx hs =
         let room : x .unread .count < limit = rw (count-alike s x same hx hs) (fits .room) in
-        send-accepted x a b v (record { two = both-alike c; running = sender-runs c; line = rw (line-stands c); room = room })
+        let numbered : sentBetween a b x < mostSent = rw (sent-alike s x same a b) (fits .numbered) in
+        send-accepted x a b v
+        (record { two = both-alike c; running = sender-runs c; line = rw (line-stands c); room = room; numbered = numbered })
 
     pub part-behind : Joined x a b → refusal x (Part a b) ≡ none
     part-behind c = part-accepted x a b (record { two = both-alike c; running = sender-runs c; plain = rw (line-stands c) })

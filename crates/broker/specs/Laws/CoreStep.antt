@@ -1,10 +1,11 @@
--- Every accepted record changes the core of a sound state by its function of the core, and a take answers the value of the first of its
--- pair's letters. Assumes nothing.
+-- Every accepted record changes the core of a sound state by its function of the core, and a take answers the value and the running number
+-- of the first of its pair's letters. Assumes nothing.
 use mathlib.Core.Path.{_≡_, refl, ap, _∙_}
 use mathlib.Core.Bool.{true, false}
 use mathlib.Core.List.{List, [], _∷_, map, map-append}
 use mathlib.Core.Option.{none}
 use lib.Dec.{eqb}
+use Prim.Native.Nat.{ℕ}
 use lib.ListN.{length}
 use Rattle.base.specs.Laws.Lists.{select-map, without-head, without-map}
 use Rattle.base.specs.Laws.Stores.{map-set}
@@ -26,7 +27,9 @@ use Rattle.broker.specs.Laws.Core.{
   settled,
   letter,
   coreStep,
+  eachBetween,
   valuesBetween,
+  sequencesBetween,
   eachTo-letters,
   firstTo-letters,
   core-status,
@@ -36,11 +39,11 @@ use Rattle.base.specs.Laws.Tests.{not-both}
 use Rattle.broker.specs.Laws.Sound.{facts}
 use Rattle.broker.specs.Laws.Standings.{standings-with-status, standings-with-request, call-unseen, route-unseen}
 use Rattle.broker.specs.Life.{start, end}
-use Rattle.broker.specs.Messages.{sentMessage, send, take, look, afterTake}
+use Rattle.broker.specs.Messages.{placeOver, send, take, look, afterTake}
 use Rattle.broker.specs.Migrate.{move, heed, land}
 use Rattle.broker.specs.Names.{endpoint, isMigrating}
 use Rattle.broker.specs.Sound.{sound}
-use Rattle.broker.specs.State.{State, status, messages, withRequest}
+use Rattle.broker.specs.State.{State, status, connection, messages, withRequest}
 use Rattle.broker.specs.Step.{apply}
 use Rattle.broker.specs.declared.process.Request.{Request}
 use Rattle.broker.specs.declared.process.Status.{Status}
@@ -65,7 +68,7 @@ module _ (s : State) (b a : Rank) (h : sound s ≡ true) (f : TakeFits s b a) wh
     first : Message
     rest : List Message
     found : select (between a b) (messages s) ≡ first ∷ rest
-    removes : afterTake b a s ≡ record { found = First first; unread = counted (without (between a b) (messages s)) }
+    removes : afterTake b a s ≡ record { found = First first; unread = counted (s .unread .sent) (without (between a b) (messages s)) }
 
   taken : Taken
   taken = at (select (between a b) (messages s)) refl (f .unread)
@@ -80,16 +83,23 @@ module _ (s : State) (b a : Rank) (h : sound s ≡ true) (f : TakeFits s b a) wh
   unfolding take
   take-core = rw (taken .removes, without-map letter (between a b) (λ m. refl))
 
-  pub take-value : take b a s .v1 ∷ valuesBetween a b (coreStep (Take b a) (core s)) ≡ valuesBetween a b (core s)
-  unfolding take
-  take-value =
+  -- a number of the letter that is taken, and behind it those of the letters that are left, are those before
+  take-first : (f : Message → ℕ) → f (letter (taken .first)) ∷ eachBetween f a b (coreStep (Take b a) (core s)) ≡ eachBetween f a b (core s)
+  take-first f =
       let letters : select (between a b) (map letter (messages s)) ≡ map letter (taken .first ∷ taken .rest) =
       select-map (between a b) letter (λ m. refl) (messages s) ∙ ap (map letter) (taken .found) in
       rw (
-        taken .removes,
         without-head (between a b) (map letter (messages s)) (letter (taken .first)) (map letter (taken .rest)) letters,
         letters,
       )
+
+  pub take-value : take b a s .v1 ∷ valuesBetween a b (coreStep (Take b a) (core s)) ≡ valuesBetween a b (core s)
+  unfolding take
+  take-value = rw (taken .removes) (take-first (λ m. m .value))
+
+  pub take-sequence : take b a s .v3 ∷ sequencesBetween a b (coreStep (Take b a) (core s)) ≡ sequencesBetween a b (core s)
+  unfolding take
+  take-sequence = rw (taken .removes) (take-first (λ m. m .sequence))
 
 pub core-step : (named : Rank) (s : State) (r : Record) → sound s ≡ true → refusal s r ≡ none
     → core (apply named r s .state) ≡ coreStep r (core s)
@@ -98,7 +108,7 @@ core-step named s (Start r h) sd p = rw map-set
 core-step named s (Call a b) sd p = call-unseen core core-with-request a b s
 core-step named s (Route a b) sd p = route-unseen core core-with-request (λ t ls. refl) (λ t vs. refl) a b s
 core-step named s (Send a b v) sd p =
-    rw (appends (s .unread) (sentMessage a b v s) (send-fits s a b v p .room), map-append)
+    rw (appends (s .unread) a b (placeOver (connection s a b)) v (send-fits s a b v p .room), map-append)
 core-step named s (Take b a) sd p = take-core s b a sd (take-fits s b a p)
 core-step named s (Move r h) sd p = rw (relabels, relabels, eachTo-letters, eachTo-letters, map-set)
 core-step named s (Heed b r) sd p = rw (relabels, eachTo-letters)

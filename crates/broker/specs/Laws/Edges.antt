@@ -17,7 +17,7 @@ unfolding openedSound
 fresh-is-sound = tt
 
 -- From a sound state the test of soundness may be left out: every step passes it.
-plays-sound :
+pub plays-sound :
     (ts : List Try) (test : State → Bool) (s : State) →
     Sound.sound s ≡ true →
     plays (λ s log. step (rank 0) s log 0) ts test s ≡ plays (λ s log. stepSound (rank 0) s log 0) ts test s

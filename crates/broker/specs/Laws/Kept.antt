@@ -35,6 +35,7 @@ facts-kept named s r f p =
             counted = order .counted;
             named = order .named;
             places-rise = order .places-rise;
+            numbers-rise = order .numbers-rise;
             ends-fit = ends-from-fits after (messages after) (views .placed);
             unheeded-places = unheeded-from-fits after (messages after) (views .placed);
             places-fit = places-from-fits after (messages after) (views .placed);

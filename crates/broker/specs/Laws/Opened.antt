@@ -24,6 +24,7 @@ unfolding Checks.refusal Checks.checks Checks.rankRange Checks.hostRange Checks.
     Checks.alreadyStarted Checks.hasEnded Checks.firstMigrating Checks.notMigrating Checks.connected Checks.requestOpen
     Checks.noRequest Checks.notConnected Checks.peerMigrating Checks.noNotice Checks.backlogLeft
     Checks.noBacklog Checks.nothingToDrain Checks.nothingUnread Checks.unreadLeft Checks.full Checks.numbersSpent
+    Checks.sequenceSpent
 openedChecks s r = Checks.refusal s r
 
 -- the clauses on names, on pairs of ranks and on messages
@@ -38,7 +39,7 @@ openedPairs s = Sound.pairsSound s
 
 unfoldable pub openedMessages : State → Bool
 unfolding Sound.messagesSound Sound.fewUnread Sound.messagesNamed Sound.endsFit Sound.unheededPlaces Sound.placesFit
-    Sound.placesRise everyPair
+    Sound.placesRise Sound.numbersRise everyPair
 openedMessages s = Sound.messagesSound s
 
 -- whether a state is sound; where this is opened, every clause of soundness is open

@@ -52,6 +52,7 @@ use Rattle.broker.specs.declared.answer.Refusal.the-variants.{
   UnreadLeft,
   Full,
   NumbersSpent,
+  SequenceSpent,
 }
 use Rattle.broker.specs.declared.process.Status.the-variants.{Running}
 use Rattle.broker.specs.declared.process.Vmid.{Vmid}
@@ -84,6 +85,7 @@ no-refusal NothingUnread = refl
 no-refusal UnreadLeft = refl
 no-refusal Full = refl
 no-refusal NumbersSpent = refl
+no-refusal SequenceSpent = refl
 
 pub never-eighteen : (answer : Answer) → NeverEighteen answer
 unfolding NeverEighteen

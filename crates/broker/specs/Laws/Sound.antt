@@ -8,7 +8,7 @@ use borrow.Author.Tests.{eqb-true, eq-eqb, leb-true, le-leb}
 use lib.Dec.{eqb, leb}
 use lib.ListN.{length}
 use Rattle.base.specs.Laws.Tests.{both, both-left, both-right, chain-at}
-use Rattle.base.specs.Lists.{select, every, neverFalls}
+use Rattle.base.specs.Lists.{select, every, neverFalls, risesWithin}
 use Rattle.transit.specs.Message.{between, at, placeNumber, sameRank, isRank, ranks, cells}
 use Rattle.transit.specs.Unread.{limit}
 use Rattle.transit.specs.declared.Message.{Message}
@@ -16,6 +16,7 @@ use Rattle.transit.specs.declared.Place.the-variants.{SourceList, SourceChannel
 use Rattle.transit.specs.declared.Rank.{Rank}
 use Rattle.base.specs.Laws.Below.{allBelow-at, allBelow-of}
 use Rattle.broker.specs.Laws.Ranks.{everyRank-at, everyRank-of, everyPair-at, everyPair-of}
+use Rattle.broker.specs.Messages.{sentBetween}
 use Rattle.broker.specs.Names.{
   hosts,
   numbers,
@@ -50,6 +51,7 @@ pub record Shape (s : State) : Type 0 where
   pub locations-long : length (s .locations) ≡ cells
   pub links-long : length (s .links) ≡ cells
   pub drawn-long : length (s .drawn) ≡ hosts
+  pub sent-long : length (s .unread .sent) ≡ cells
 
 pub record Names (s : State) : Type 0 where
   pub numbers-in-range : (h : ℕ) → h < 8 → drawnOn s h ≤ numbers
@@ -94,6 +96,8 @@ pub record Mail (s : State) : Type 0 where
   pub unheeded-places : every (fitsUnheeded s) (messages s) ≡ true
   pub places-fit : every (fitsPlace s) (messages s) ≡ true
   pub places-rise : AtPairs (λ a b. neverFalls (map (λ m. placeNumber (m .place)) (select (between a b) (messages s))))
+  pub numbers-rise :
+      AtPairs (λ a b. risesWithin 0 (sentBetween a b s) (map (λ m. m .sequence) (select (between a b) (messages s))))
 
 pub record Facts (s : State) : Type 0 where
   pub shape : Shape s
@@ -103,7 +107,9 @@ pub record Facts (s : State) : Type 0 where
 
 -- the clauses of each group, after its first
 abbrev longs : State → List Bool
-longs s = eqb (length (s .locations)) cells ∷ eqb (length (s .links)) cells ∷ eqb (length (s .drawn)) hosts ∷ []
+longs s =
+    eqb (length (s .locations)) cells ∷ eqb (length (s .links)) cells ∷ eqb (length (s .drawn)) hosts ∷
+    eqb (length (s .unread .sent)) cells ∷ []
 
 abbrev nameClauses : State → List Bool
 nameClauses s = Sound.vmidsDrawn s ∷ Sound.callsDrawn s ∷ Sound.tablesDrawn s ∷ Sound.vmidsApart s ∷ []
@@ -114,7 +120,8 @@ pairClauses s =
     Sound.callsFit s ∷ []
 
 abbrev mailClauses : State → List Bool
-mailClauses s = Sound.messagesNamed s ∷ Sound.endsFit s ∷ Sound.unheededPlaces s ∷ Sound.placesFit s ∷ Sound.placesRise s ∷ []
+mailClauses s =
+    Sound.messagesNamed s ∷ Sound.endsFit s ∷ Sound.unheededPlaces s ∷ Sound.placesFit s ∷ Sound.placesRise s ∷ Sound.numbersRise s ∷ []
 
 shape-of : (s : State) → Sound.shaped s ≡ true → Shape s
 unfolding Sound.shaped
@@ -125,12 +132,19 @@ shape-of s h =
       locations-long = eqb-true (length (s .locations)) cells (clause 1);
       links-long = eqb-true (length (s .links)) cells (clause 2);
       drawn-long = eqb-true (length (s .drawn)) hosts (clause 3);
+      sent-long = eqb-true (length (s .unread .sent)) cells (clause 4);
     }
 
 of-shape : (s : State) → Shape s → Sound.shaped s ≡ true
 unfolding Sound.shaped
 of-shape s f =
-    simp (eq-eqb _ _ (f .processes-long), eq-eqb _ _ (f .locations-long), eq-eqb _ _ (f .links-long), eq-eqb _ _ (f .drawn-long))
+    simp (
+      eq-eqb _ _ (f .processes-long),
+      eq-eqb _ _ (f .locations-long),
+      eq-eqb _ _ (f .links-long),
+      eq-eqb _ _ (f .drawn-long),
+      eq-eqb _ _ (f .sent-long),
+    )
 
 names-of : (s : State) → Sound.namesSound s ≡ true → Names s
 unfolding Sound.namesSound Sound.numbersInRange Sound.vmidsDrawn Sound.callsDrawn Sound.tablesDrawn Sound.vmidsApart
@@ -176,6 +190,7 @@ of-pairs s f =
 
 mail-of : (s : State) → Sound.messagesSound s ≡ true → Mail s
 unfolding Sound.messagesSound Sound.fewUnread Sound.messagesNamed Sound.endsFit Sound.unheededPlaces Sound.placesFit Sound.placesRise
+    Sound.numbersRise
 mail-of s h =
     let clause = chain-at (Sound.fewUnread s) (mailClauses s) h in
     let few = leb (s .unread .count) limit in
@@ -188,13 +203,16 @@ mail-of s h =
       unheeded-places = clause 3;
       places-fit = clause 4;
       places-rise = everyPair-at _ (clause 5);
+      numbers-rise = everyPair-at _ (clause 6);
     }
 
 of-mail : (s : State) → Mail s → Sound.messagesSound s ≡ true
 unfolding Sound.messagesSound Sound.fewUnread Sound.messagesNamed Sound.endsFit Sound.unheededPlaces Sound.placesFit Sound.placesRise
+    Sound.numbersRise
 of-mail s f =
     let few = both (le-leb (s .unread .count) limit (f .few)) (eq-eqb (length (messages s)) (s .unread .count) (f .counted)) in
-    both (both (both (both (both few (f .named)) (f .ends-fit)) (f .unheeded-places)) (f .places-fit)) (everyPair-of _ (f .places-rise))
+    both (both (both (both (both (both few (f .named)) (f .ends-fit)) (f .unheeded-places)) (f .places-fit))
+    (everyPair-of _ (f .places-rise))) (everyPair-of _ (f .numbers-rise))
 
 -- what soundness says
 pub facts : (s : State) → sound s ≡ true → Facts s

@@ -2,7 +2,7 @@
 use mathlib.Core.Path.{_≡_, refl, ap}
 use mathlib.Core.Bool.{true, false, cond, _&&_}
 use mathlib.Core.List.{List}
-use Prim.Native.Nat.{_<_}
+use Prim.Native.Nat.{ℕ, _+_, _<_}
 use native.Mathlib.Omega.{arith}
 use lib.Dec.{eqb}
 use lib.ListN.{length, getD, set}
@@ -10,6 +10,7 @@ use borrow.Author.Tests.{eq-eqb, ne-eqb, eqb-true, eqb-false}
 use Rattle.base.specs.Laws.Stores.{getD-set, store-unseen}
 use Rattle.base.specs.Laws.Tests.{by-test, eqb-swap}
 use Rattle.transit.specs.Message.{sameRank, ranks, cells}
+use Rattle.transit.specs.Unread.{sentAt, oneMore}
 use Rattle.transit.specs.declared.Rank.{Rank}
 use Rattle.broker.specs.State.{
   State,
@@ -65,6 +66,12 @@ cell-set l p q a b x d n hp hq hb =
 pub link-set : (ls : List Link) (p q a b : Rank) (l : Link) → length ls ≡ cells → p .0 < ranks → q .0 < ranks → b .0 < ranks
     → linkAt (setLink ls p q l) a b ≡ cond (sameRank a p && sameRank b q) l (linkAt ls a b)
 link-set ls p q a b l n hp hq hb = cell-set ls p q a b l apart n hp hq hb
+
+-- how many c has sent to d, once a has sent b one more
+pub sent-after : (counts : List ℕ) (a b c d : Rank) → length counts ≡ cells → a .0 < ranks → b .0 < ranks → d .0 < ranks
+    → sentAt c d (oneMore a b counts) ≡ cond (sameRank a c && sameRank b d) (sentAt a b counts + 1) (sentAt c d counts)
+sent-after counts a b c d long ha hb hd =
+    rw (eqb-swap (a .0) (c .0), eqb-swap (b .0) (d .0)) (cell-set counts a b c d (sentAt a b counts + 1) 0 long ha hb hd)
 
 -- a rank's process, its standing and its call, after a change of one rank's
 module _ (s : State) (r a : Rank) where

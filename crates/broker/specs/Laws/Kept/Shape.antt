@@ -1,16 +1,23 @@
--- Every record keeps the state's shape: a part for each rank, for each rank and each rank, and for each host.
+-- Every record keeps the state's shape: a part for each rank, for each rank and each rank, for each host, and for each pair.
 -- Assumes nothing.
 use mathlib.Core.Path.{_≡_}
 use mathlib.Core.List.{List}
 use Prim.Native.Nat.{ℕ}
+use lib.Dec.{ltb}
 use lib.ListN.{length, length-set}
-use Rattle.transit.specs.Unread.{Unread}
+use Rattle.transit.specs.Laws.Operations.{relabels, relabels-first, removes}
+use Rattle.transit.specs.Unread.{Unread, AfterAppend, appended, limit, head, leave, removed}
+use Rattle.transit.specs.declared.Found.{Found}
+use Rattle.transit.specs.declared.Found.the-variants.{First, Nothing}
+use Rattle.transit.specs.declared.Place.{Place}
 use Rattle.transit.specs.declared.Rank.{Rank}
+use Rattle.transit.specs.declared.Selection.{Selection}
+use Rattle.transit.specs.declared.Selection.the-variants.{Between}
 use Rattle.broker.specs.Connect.{call, part, connectBoth, withdraw}
 use Rattle.base.specs.Laws.Tests.{chosen}
 use Rattle.broker.specs.Laws.Cases.{route-cases, drain-cases}
 use Rattle.base.specs.Laws.Stores.{long-set}
-use Rattle.transit.specs.Message.{ranks, cells}
+use Rattle.transit.specs.Message.{placeOrder, pairOf, ranks, cells}
 use Rattle.broker.specs.Laws.Each.{announced-long}
 use Rattle.broker.specs.Laws.Leaving.{leaveAll-long}
 use Rattle.broker.specs.Laws.Sound.{Shape}
@@ -32,25 +39,69 @@ use Rattle.broker.specs.declared.record.Record.the-variants.{Start, Call
 shape-with-process : {s : State} (r : Rank) (p : Process) → Shape s → Shape (withProcess r p s)
 shape-with-process {s} r p f =
     let long = long-set ranks (s .processes) (r .0) p (f .processes-long) in
-    record { processes-long = long; locations-long = f .locations-long; links-long = f .links-long; drawn-long = f .drawn-long }
+    record {
+      processes-long = long;
+      locations-long = f .locations-long;
+      links-long = f .links-long;
+      drawn-long = f .drawn-long;
+      sent-long = f .sent-long;
+    }
 
 pub shape-with-locations : {s : State} (ls : List Vmid) → length ls ≡ cells → Shape s → Shape (withLocations ls s)
 shape-with-locations ls e f =
-    record { processes-long = f .processes-long; locations-long = e; links-long = f .links-long; drawn-long = f .drawn-long }
+    record {
+      processes-long = f .processes-long;
+      locations-long = e;
+      links-long = f .links-long;
+      drawn-long = f .drawn-long;
+      sent-long = f .sent-long;
+    }
 
 shape-with-links : {s : State} (ls : List Link) → length ls ≡ cells → Shape s → Shape (withLinks ls s)
 shape-with-links ls e f =
-    record { processes-long = f .processes-long; locations-long = f .locations-long; links-long = e; drawn-long = f .drawn-long }
+    record {
+      processes-long = f .processes-long;
+      locations-long = f .locations-long;
+      links-long = e;
+      drawn-long = f .drawn-long;
+      sent-long = f .sent-long;
+    }
 
 pub shape-with-drawn : {s : State} (h n : ℕ) → Shape s → Shape (withDrawn h n s)
 shape-with-drawn {s} h n f =
     let long = long-set hosts (s .drawn) h n (f .drawn-long) in
-    record { processes-long = f .processes-long; locations-long = f .locations-long; links-long = f .links-long; drawn-long = long }
+    record {
+      processes-long = f .processes-long;
+      locations-long = f .locations-long;
+      links-long = f .links-long;
+      drawn-long = long;
+      sent-long = f .sent-long;
+    }
 
-shape-with-unread : {s : State} (u : Unread) → Shape s → Shape (withUnread u s)
-shape-with-unread u f =
-    let long = f .processes-long in
-    record { processes-long = long; locations-long = f .locations-long; links-long = f .links-long; drawn-long = f .drawn-long }
+shape-with-unread : {s : State} (u : Unread) → length (u .sent) ≡ cells → Shape s → Shape (withUnread u s)
+shape-with-unread u e f =
+    record {
+      processes-long = f .processes-long;
+      locations-long = f .locations-long;
+      links-long = f .links-long;
+      drawn-long = f .drawn-long;
+      sent-long = e;
+    }
+
+-- there are as many counts sent after a send and after a take
+sends-long : (u : Unread) (a b : Rank) (p : Place) (v : ℕ) → length (u .sent) ≡ cells
+    → length (appended u a b p v .unread .sent) ≡ cells
+unfolding appended
+sends-long u a b p v e =
+    chosen (λ (x : AfterAppend). length (x .unread .sent) ≡ cells) (ltb (u .count) limit) _ _
+    (λ h. long-set cells (u .sent) (pairOf a b) _ e) (λ h. e)
+
+takes-long : (q : Selection) (u : Unread) → length (u .sent) ≡ cells → length (removed q u .unread .sent) ≡ cells
+takes-long q u e = rw (removes q u) (left (head (placeOrder q (u .messages))))
+  where
+    left : (x : Found) → length (leave q u x .unread .sent) ≡ cells
+    left Nothing = e
+    left (First m) = e
 
 pub shape-connect : {s : State} (a b : Rank) (c : Connection) → Shape s → Shape (connectBoth a b c s)
 shape-connect a b c f = shape-with-links _ (rw (length-set, length-set) (f .links-long)) f
@@ -68,15 +119,17 @@ shape-kept named s (Call a b) f = shape-with-process a _ f
 shape-kept named s (Route a b) f =
     route-cases Shape a b s (shape-with-process a _ f) (shape-withdraw b a (shape-withdraw a b (shape-connect a b Open f)))
     (shape-with-locations _ (rw length-set (f .locations-long)) (shape-with-process a _ f))
-shape-kept named s (Send a b v) f = shape-with-unread _ f
-shape-kept named s (Take b a) f = shape-with-unread _ f
+shape-kept named s (Send a b v) f = shape-with-unread _ (sends-long (s .unread) a b _ v (f .sent-long)) f
+shape-kept named s (Take b a) f = shape-with-unread _ (takes-long (Between a b) (s .unread) (f .sent-long)) f
 shape-kept named s (Move r h) f =
     shape-with-links _ (leaveAll-long r (s .links) (f .links-long))
-    (shape-with-unread _ (shape-with-process r _ (shape-with-drawn h _ f)))
-shape-kept named s (Heed b r) f = shape-with-links _ (rw (length-set, length-set) (f .links-long)) (shape-with-unread _ f)
+    (shape-with-unread _ (rw (relabels, relabels) (f .sent-long)) (shape-with-process r _ (shape-with-drawn h _ f)))
+shape-kept named s (Heed b r) f =
+    shape-with-links _ (rw (length-set, length-set) (f .links-long)) (shape-with-unread _ (rw relabels (f .sent-long)) f)
 shape-kept named s (Drain r p) f =
-    drain-cases Shape r p s (shape-with-unread _ f) (shape-with-links _ (rw length-set (f .links-long)) f)
-shape-kept named s (Land r) f = shape-with-process r _ (shape-with-unread _ f)
-shape-kept named s (Part a b) f = shape-connect a b Closed (shape-with-unread _ f)
+    drain-cases Shape r p s (shape-with-unread _ (rw relabels-first (f .sent-long)) f)
+    (shape-with-links _ (rw length-set (f .links-long)) f)
+shape-kept named s (Land r) f = shape-with-process r _ (shape-with-unread _ (rw relabels (f .sent-long)) f)
+shape-kept named s (Part a b) f = shape-connect a b Closed (shape-with-unread _ (rw (relabels, relabels) (f .sent-long)) f)
 shape-kept named s (End r) f = shape-with-process r _ f
 shape-kept named s (Look r) f = f

@@ -59,7 +59,15 @@ pub record Views (s : State) : Type 0 where
   pub order : InOrder (s .unread)
 
 facts-order : (s : State) → Facts s → InOrder (s .unread)
-facts-order s f = record { few = f .mail .few; counted = f .mail .counted; named = f .mail .named; places-rise = f .mail .places-rise }
+facts-order s f =
+    let mail = f .mail in
+    record {
+      few = mail .few;
+      counted = mail .counted;
+      named = mail .named;
+      places-rise = mail .places-rise;
+      numbers-rise = mail .numbers-rise;
+    }
 
 -- a message whose place is changed, if it is in scope and at the place p
 changed-as : (scope : Bool) (p q : Place) (m : Message)
@@ -104,22 +112,28 @@ none-of (m ∷ l) e = let z = eqb-true (length (m ∷ l)) 0 e in absurd (omega a
 
 -- a step with an effect on the views: where each message gets its place anew, and where none does
 module _ {s s' : State} {c : Change} {about : Rank → Rank → Bool} (f : Facts s) (e : Effect s s' c about) where
-  views-anew : (g : Message → Message) → s' .unread .count ≡ s .unread .count → messages s' ≡ map g (messages s)
-      → ((m : Message) → g m ≡ placedAnew f e m) → Unbarred f e → Views s'
-  views-anew g count list same unbarred =
-      let placed : messages s' ≡ map (placedAnew f e) (messages s) =
-      list ∙ map-congr-left {f = g} {g = placedAnew f e} {l = messages s} (λ m _. same m) in
+  -- the unread with other messages in their stead
+  abbrev among : List Message → Unread
+  among l = record { messages = l; count = s .unread .count; sent = s .unread .sent }
+
+  views-anew : (g : Message → Message) → s' .unread ≡ among (map g (messages s)) → ((m : Message) → g m ≡ placedAnew f e m) → Unbarred f e
+      → Views s'
+  views-anew g list same unbarred =
+      let placed : s' .unread ≡ among (map (placedAnew f e) (messages s)) =
+      list ∙ ap among (map-congr-left {f = g} {g = placedAnew f e} {l = messages s} (λ m _. same m)) in
+      let anew = placedAnew f e in
+      let selected : (a b : Rank) → select (between a b) (map anew (messages s)) ≡ map anew (select (between a b) (messages s)) =
+      λ a b. select-map (between a b) anew (λ m. refl) (messages s) in
       record {
         pairs = pairs-stay f e;
         placed = rw (placed, every-map) (messages-stay f e unbarred);
         order =
-            record {
-              few = rw count (f .mail .few);
-              counted = rw (placed, count) (length-map (messages s) (placedAnew f e) ∙ f .mail .counted);
-              named = rw (placed, every-map) (f .mail .named);
-              places-rise =
-                  λ a b ha hb.
-                  rw (placed, select-map (between a b) (placedAnew f e) (λ m. refl) (messages s), map-map) (order-stays f e a b ha hb);
+            rw placed record {
+              few = f .mail .few;
+              counted = length-map (messages s) (placedAnew f e) ∙ f .mail .counted;
+              named = rw every-map (f .mail .named);
+              places-rise = λ a b ha hb. rw (selected a b, map-map) (order-stays f e a b ha hb);
+              numbers-rise = λ a b ha hb. rw (selected a b, map-map) (f .mail .numbers-rise a b ha hb);
             };
       }
 
@@ -130,7 +144,7 @@ module _ {s s' : State} {c : Change} {about : Rank → Rank → Bool} (f : Facts
   -- where it changes no place, no message changes
   views-still : s' .unread ≡ s .unread → ((x : Place) → c .place x ≡ x) → ((x : Place) → c .placeBack x ≡ x) → Unbarred f e → Views s'
   views-still same stays stays-back =
-      views-anew (λ m. m) (ap (λ (u : Unread). u .count) same) (ap (λ (u : Unread). u .messages) same ∙ sym (map-id (messages s)))
+      views-anew (λ m. m) (same ∙ ap among (sym (map-id (messages s))))
       (λ m. rw (stays (m .place), stays-back (m .place), same-either, same-either))
 
 -- The kinds with cases, and those that change the messages alone.
@@ -168,10 +182,12 @@ module _ (s : State) (f : Facts s) where
       (pair-fits s (f .pairs) a b ha hb) (rw (k .running, k .line)) in
       let new : fits s m ≡ true = both-left _ _ fit in
       let past : Place → Bool = λ p. ifSo (messageFits p (side s b a) (side s a b)) (upTo p (m .place)) in
-      views-with (appended (s .unread) m .unread)
-      (rw (appends (s .unread) m (k .room), every-append) (both (messages-fit s (f .mail)) (both new refl)))
-      (rw (appends (s .unread) m (k .room))
-      (append-keeps (s .unread) (facts-order s f) m (k .room) (rw (lt-ltb (a .0) ranks ha, lt-ltb (b .0) ranks hb, k .two .apart))
+      let added = appends (s .unread) a b (m .place) v (k .room) in
+      views-with (appended (s .unread) a b (m .place) v .unread)
+      (rw (added, every-append) (both (messages-fit s (f .mail)) (both new refl)))
+      (rw added
+      (append-keeps (s .unread) (facts-order s f) a b (m .place) v ha hb (f .shape .sent-long) (k .room)
+      (rw (lt-ltb (a .0) ranks ha, lt-ltb (b .0) ranks hb, k .two .apart))
       (every-wider (fits s) _
       (λ x h.
       if-so (between a b x) (upTo (x .place) (m .place)) λ is.
@@ -222,7 +238,7 @@ views-kept named s (Move r h) f p =
     let e = Effects.move-effect s f r h (Accepted.move-fits s r h p) in
     let listed : Message → Message = changeEach (picks (ToAt r EndList)) (relabelled SourceList) in
     views-anew f e (λ m. changeEach (picks (ToAt r Channel)) (relabelled SourceChannel) (listed m))
-    (rw (relabels, relabels)) (rw (relabels, relabels, map-map))
+    (rw (relabels, relabels, map-map))
     (λ m.
     let first = relabelled (cond (to r m) (shift EndList SourceList (m .place)) (m .place)) m in
     rw (changed-as (to r m) EndList SourceList m, changed-as (to r m) Channel SourceChannel first)
@@ -230,17 +246,17 @@ views-kept named s (Move r h) f p =
     (free f e (λ x. refl))
 views-kept named s (Heed b r) f p =
     let e = Effects.heed-effect s f b r (Accepted.heed-fits s b r p) in
-    views-anew f e (changeEach (picks (onChannel r b)) (relabelled EndList)) (rw relabels) (rw relabels)
+    views-anew f e (changeEach (picks (onChannel r b)) (relabelled EndList)) (rw relabels)
     (λ m. rw (changed-as (between r b m) Channel EndList m, same-either)) (free f e (λ x. refl))
 views-kept named s (Drain r q) f p = views-drain s f r q (Accepted.drain-fits s r q p)
 views-kept named s (Land r) f p =
     let e = Effects.land-effect s f r (Accepted.land-fits s r p) in
-    views-anew f e (changeEach (picks (ToAt r SourceList)) (relabelled EndList)) (rw relabels) (rw relabels)
+    views-anew f e (changeEach (picks (ToAt r SourceList)) (relabelled EndList)) (rw relabels)
     (λ m. rw (changed-as (to r m) SourceList EndList m, same-either)) (free f e (λ x. refl))
 views-kept named s (Part a b) f p =
     let e = Effects.part-effect s f a b (Accepted.part-fits s a b p) in
     let listed : Rank → Rank → Message → Message = λ p q. changeEach (picks (onChannel p q)) (relabelled EndList) in
-    views-anew f e (λ m. listed a b (listed b a m)) (rw (relabels, relabels)) (rw (relabels, relabels, map-map))
+    views-anew f e (λ m. listed a b (listed b a m)) (rw (relabels, relabels, map-map))
     (λ m.
     let there = relabelled (cond (between b a m) (shift Channel EndList (m .place)) (m .place)) m in
     rw (changed-as (between b a m) Channel EndList m, changed-as (between a b m) Channel EndList there)
