@@ -1,13 +1,14 @@
 // Send, take and look: the checks of each in the paper's order, and what each does where none applies.
-// Paper 01, "The step log", kinds 04, 05 and 0C.
+// Paper 01, "The step log", kinds 04, 05 and 0C; paper 02, change 4.
 ghost use mathlib.Core.List.{List};
 ghost use mathlib.Core.Path.{_≡_};
 ghost use lib.ListN.{length};
 ghost use Prim.Native.Nat.{ℕ, _<_};
 ghost use Rattle.base.specs.Lists.{tally};
+ghost use Rattle.transit.specs.Columns.{sentIn};
 ghost use Rattle.transit.specs.Mail.{Mail, messagesIn};
 ghost use Rattle.transit.specs.Message.{between, ranks};
-ghost use Rattle.transit.specs.Unread.{limit};
+ghost use Rattle.transit.specs.Unread.{limit, sentAt, mostSent};
 ghost use Rattle.broker.specs.Messages.{placeOver, send, take};
 ghost use Rattle.broker.specs.declared.record.Record.{Record};
 ghost use Rattle.roster.specs.Roster.{Whole};
@@ -28,7 +29,6 @@ use roster::read::standing_of;
 use transit::Contents;
 use transit::Count;
 use transit::Found;
-use transit::Message;
 use transit::Place;
 use transit::Rank;
 use transit::Slots;
@@ -38,6 +38,7 @@ use transit::count::unread;
 use transit::count::unread_between;
 use transit::find::first_to;
 use transit::remove::remove;
+use transit::sent::sent_between;
 
 fn send_checked(
     a: Rank,
@@ -46,26 +47,35 @@ fn send_checked(
     receiver: Status,
     line: Connection,
     unread: usize,
+    sent: u32,
 ) -> Verdict
-    ensures { λ v. ⌜ verdictOf v ≡ judged passed (sendTests a b sender receiver line unread) ⌝ }
+    ensures { λ v. ⌜ verdictOf v ≡ judged passed (sendTests a b sender receiver line unread sent) ⌝ }
 {
     Verdict::on_two(a, b, sender, receiver)
         .running(sender)
         .unless(line.is_closed(), Refusal::NotConnected)
         .unless(Transit::LIMIT <= unread, Refusal::Full)
+        .unless(Transit::MOST_SENT <= sent, Refusal::SequenceSpent)
 }
 
-pub fn send_verdict(a: Rank, b: Rank, slots: &Slots, roster: &Roster) -> Verdict
-    requires { ⌜ Whole (now roster) ⌝ }
-    ensures { λ v. ⌜ ((contents : List ℕ) (value : ℕ) → Mail (now (slots .entry)) contents → Judges (Record.Send a b value) (deskOf
-        (now (slots .entry)) contents (now (roster .entry))) v) ⌝ }
+pub fn send_verdict(
+    a: Rank,
+    b: Rank,
+    slots: &Slots,
+    contents: &Contents,
+    roster: &Roster,
+) -> Verdict
+    requires { ⌜ Desk (now slots) (now contents) (now roster) ⌝ }
+    ensures { λ v. ⌜ ((value : ℕ) → Judges (Record.Send a b value) (deskOf (now (slots .entry)) (now (contents .entry))
+        (now (roster .entry))) v) ⌝ }
 {
     let sender = standing_of(a, roster);
     let receiver = standing_of(b, roster);
     let link = link_between(a, b, roster);
     let line = link.connection;
     let n = unread(slots);
-    send_checked(a, b, sender, receiver, line, n)
+    let sent = sent_between(a, b, contents);
+    send_checked(a, b, sender, receiver, line, n, sent)
 }
 
 // Where a message over a connection stands.
@@ -79,7 +89,7 @@ fn place_over(line: Connection) -> Place
     }
 }
 
-// The message is unread, after all others.
+// The message is unread, after all others, with the next number of its pair.
 pub fn send(
     a: Rank,
     b: Rank,
@@ -91,22 +101,14 @@ pub fn send(
     requires { ⌜ Desk (now slots) (now contents) (now roster) ⌝ }
     requires { ⌜ (a .0 < ranks) × (b .0 < ranks) ⌝ }
     requires { ⌜ length (messagesIn (now slots) (now contents)) < limit ⌝ }
+    requires { ⌜ sentAt a b (sentIn (now contents)) < mostSent ⌝ }
     ensures { λ v. ⌜ DeskDoes (send a b value) (now (slots .entry)) (now (contents .entry)) (now (roster .entry)) v
         (now (slots .exit)) (now (contents .exit)) (now (roster .entry)) ⌝ }
 {
     let link = link_between(a, b, roster);
     let line = link.connection;
     let place = place_over(line);
-    let pair = append(
-        Message {
-            sender: a,
-            receiver: b,
-            value: value,
-            place: place,
-        },
-        slots,
-        contents,
-    );
+    let pair = append(a, b, place, value, slots, contents);
     Values(widened(pair), 0, 0)
 }
 
@@ -138,7 +140,7 @@ pub fn take(b: Rank, a: Rank, slots: &mut Slots, contents: &Contents) -> Values
         (now (slots .exit)) (now (contents .entry)) roster) ⌝ }
 {
     let removed = remove(a, b, slots, contents);
-    Values(removed.value, widened(removed.left), 0)
+    Values(removed.value, widened(removed.left), removed.sequence)
 }
 
 fn look_checked(r: Rank, receiver: Status, found: Found) -> Verdict

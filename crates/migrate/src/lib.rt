@@ -132,7 +132,7 @@ pub fn drain(
     match found {
         Found::First(m) => {
             relabel_first(p, r, Place::SourceChannel, Place::SourceList, slots);
-            Values(0, m.value, 0)
+            Values(0, m.value, m.sequence)
         }
         Found::Nothing => {
             awaiting(r, p, Backlog::Clear, roster);

@@ -14,7 +14,7 @@ pub fn judge(read: Record, slots: &Slots, contents: &Contents, roster: &Roster) 
         Record::Start(r, host) => life::start_verdict(r, host, roster),
         Record::Call(a, b) => connect::call_verdict(a, b, roster),
         Record::Route(a, b) => connect::route_verdict(a, b, roster),
-        Record::Send(a, b, _) => exchange::send_verdict(a, b, slots, roster),
+        Record::Send(a, b, _) => exchange::send_verdict(a, b, slots, contents, roster),
         Record::Take(b, a) => exchange::take_verdict(b, a, slots, roster),
         Record::Move(r, host) => depart::move_verdict(r, host, roster),
         Record::Heed(b, r) => migrate::heed_verdict(b, r, roster),

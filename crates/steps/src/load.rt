@@ -1,7 +1,7 @@
 // Between the two forms of one state: the plain one, which is handed over, tested and saved, and the arrays, on which a run works.
 ghost use mathlib.Core.Path.{_≡_};
 ghost use lib.ListN.{length};
-ghost use Rattle.transit.specs.Columns.{SLOTS, slotsLength};
+ghost use Rattle.transit.specs.Columns.{slotsLength, contentsLength};
 ghost use Rattle.broker.specs.State.{view, fresh};
 ghost use Rattle.checks.specs.Desk.{deskOf, Desk};
 ghost use Rattle.roster.specs.Roster.{Whole};
@@ -9,24 +9,25 @@ ghost use Rattle.steps.specs.Outcome.{HoldsState, Loads};
 use broker::state::Broker;
 use roster::Roster;
 use soundness::is_sound;
+use transit::CELLS;
 use transit::Contents;
 use transit::Slots;
 
 // The fresh state, in the arrays.
 pub fn open_fresh(slots: &mut Slots, contents: &mut Contents, roster: &mut Roster)
     requires { ⌜ length (now slots) ≡ slotsLength ⌝ }
-    requires { ⌜ length (now contents) ≡ SLOTS ⌝ }
+    requires { ⌜ length (now contents) ≡ contentsLength ⌝ }
     requires { ⌜ Whole (now roster) ⌝ }
     ensures { λ _. ⌜ HoldsState fresh (now (slots .exit)) (now (contents .exit)) (now (roster .exit)) ⌝ }
 {
-    transit::load::clear(slots);
+    transit::load::clear([0; CELLS], slots, contents);
     roster::load::clear(roster);
 }
 
 // A state is tested, and where it is sound the arrays hold it.
 pub fn load(broker: Broker, slots: &mut Slots, contents: &mut Contents, roster: &mut Roster) -> bool
     requires { ⌜ length (now slots) ≡ slotsLength ⌝ }
-    requires { ⌜ length (now contents) ≡ SLOTS ⌝ }
+    requires { ⌜ length (now contents) ≡ contentsLength ⌝ }
     requires { ⌜ Whole (now roster) ⌝ }
     ensures { λ r. ⌜ Loads (view broker) r (now (slots .exit)) (now (contents .exit)) (now (roster .exit)) ⌝ }
 {

@@ -8,6 +8,12 @@ use Rattle.exchange.specs.Laws.Done.{send-done}
 use Rattle.exchange.proofs.send.Statement.{statement}
 use Rattle.exchange.proofs.send.Tie as tie
 
+append-requires : tie.Need-append-requires
+append-requires c κs =
+    let start = c .before .before .before .before in
+    let pre = start .pre in
+    (pre .0 .mail, (pre .1 .1 .0, (pre .1 .0 .0, (pre .1 .0 .1, pre .1 .1 .1))))
+
 returns : tie.Need-returns
 returns c =
     let behind = c .before in
@@ -20,9 +26,9 @@ returns c =
       kept = record { mail = x .kept; long = start .pre .0 .long };
       does = λ ok.
           rw (c .widened .ensures)
-          (send-done (args .a) (args .b) (ranksOf (args .roster .now)) (args .value) _ at-place x (start .pre .1 .1));
+          (send-done (args .a) (args .b) (ranksOf (args .roster .now)) (args .value) _ at-place x (start .pre .1 .1 .0));
     }
 
 pub send-spec : {M : Type 1} → statement M
 send-spec =
-    tie.close (tie.spec (λ c. search needs) (λ c. search needs) (λ c κs. search needs) (λ c. search needs) returns)
+    tie.close (tie.spec (λ c. search needs) (λ c. search needs) append-requires (λ c. search needs) returns)

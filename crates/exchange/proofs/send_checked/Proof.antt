@@ -5,10 +5,12 @@ use Rattle.exchange.proofs.send_checked.Tie as tie
 
 returns : tie.Need-returns
 returns c =
-    let line = c .before .before in
-    rw (c .unless2 .ensures, c .before .unless .ensures, line .is-closed .ensures, line .before .running .ensures)
-    (rw (line .before .before .on-two .ensures))
+    let line = c .before .before .before in
+    rw (c .unless3 .ensures, c .before .unless2 .ensures, c .before .before .unless .ensures)
+    (rw (line .is-closed .ensures, line .before .running .ensures)
+    (rw (line .before .before .on-two .ensures)))
 
 pub send-checked-spec : {M : Type 1} → statement M
 send-checked-spec =
-    tie.close (tie.spec (λ c. search needs) (λ c. search needs) (λ c. search needs) (λ c. search needs) (λ c. search needs) returns)
+    tie.close (tie.spec (λ c. search needs) (λ c. search needs) (λ c. search needs) (λ c. search needs) (λ c. search needs)
+    (λ c. search needs) returns)

@@ -6,13 +6,17 @@ use Rattle.exchange.proofs.send_verdict.Statement.{statement}
 use Rattle.exchange.proofs.send_verdict.Tie as tie
 
 returns : tie.Need-returns
-returns c = λ contents value m.
-    let line = c .before .before in
-    let args = line .before .before .before .args in
-    rw (by-tests (deskOf (args .slots .now) contents (args .roster .now)) .send (args .a) (args .b) value)
-    (rw (c .send-checked .ensures, c .before .unread .ensures contents m, line .link-between .ensures)
-    (rw (line .before .standing-of2 .ensures, line .before .before .standing-of .ensures)))
+returns c = λ value.
+    let counted = c .before .before in
+    let line = counted .before in
+    let start = line .before .before .before in
+    let args = start .args in
+    let mail = start .pre .mail in
+    rw (by-tests (deskOf (args .slots .now) (args .contents .now) (args .roster .now)) .send (args .a) (args .b) value)
+    (rw (c .send-checked .ensures, c .before .sent-between .ensures (mail .contents-long), counted .unread .ensures _ mail)
+    (rw (line .link-between .ensures, line .before .standing-of2 .ensures, line .before .before .standing-of .ensures)))
 
 pub send-verdict-spec : {M : Type 1} → statement M
 send-verdict-spec =
-    tie.close (tie.spec (λ c. search needs) (λ c. search needs) (λ c. search needs) (λ c. search needs) (λ c. search needs) returns)
+    tie.close (tie.spec (λ c. search needs) (λ c. search needs) (λ c. search needs) (λ c. search needs) (λ c. search needs)
+    (λ c. search needs) returns)

@@ -22,7 +22,7 @@ module _ (a b : Rank) (known : State) {slots contents slots' : List ℕ} where
   pub send-done :
       {contents' : List ℕ} {n : ℕ} (v : ℕ) (p : Place) →
       p ≡ placeOver (connection known a b) →
-      Appended (record { sender = a; receiver = b; place = p; value = v }) slots contents n slots' contents' →
+      Appended a b p v slots contents n slots' contents' →
       length (messagesIn slots contents) < limit →
       done (withUnread (unreadIn slots' contents') known) n 0 0 ≡ send a b v (withUnread (unreadIn slots contents) known)
   unfolding send
@@ -30,12 +30,12 @@ module _ (a b : Rank) (known : State) {slots contents slots' : List ℕ} where
 
   -- the pair's first message has left, which in a sound state is the first in place order
   pub take-done :
-      {value rest : ℕ} → Left a b slots contents value rest slots' →
+      {value sequence rest : ℕ} → Left a b slots contents value sequence rest slots' →
       a .0 < ranks → b .0 < ranks →
       0 < tally (between a b) (messagesIn slots contents) →
       sound (withUnread (unreadIn slots contents) known) ≡ true →
-      done (withUnread (unreadIn slots' contents) known) value rest 0 ≡ take b a (withUnread (unreadIn slots contents) known)
+      done (withUnread (unreadIn slots' contents) known) value rest sequence ≡ take b a (withUnread (unreadIn slots contents) known)
   unfolding take
   take-done x in-a in-b some ok =
       let s = withUnread (unreadIn slots contents) known in
-      rw (left-unread x some (facts s ok .mail .places-rise a b in-a in-b), x .found, x .pair)
+      rw (left-unread x some (facts s ok .mail .places-rise a b in-a in-b), x .found, x .numbered, x .pair)

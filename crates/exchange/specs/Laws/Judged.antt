@@ -8,7 +8,7 @@ use Rattle.transit.specs.declared.Rank.{Rank}
 use Rattle.transit.specs.declared.Selection.the-variants.{To}
 use Rattle.broker.specs.Checks.{refusal}
 use Rattle.broker.specs.Laws.Opened.{openedChecks}
-use Rattle.broker.specs.Messages.{unreadBetween}
+use Rattle.broker.specs.Messages.{unreadBetween, sentBetween}
 use Rattle.broker.specs.State.{State, status, connection}
 use Rattle.broker.specs.declared.record.Record.the-variants.{Send, Take, Look}
 use Rattle.checks.specs.Laws.Unread.{no-head}
@@ -20,7 +20,8 @@ use Rattle.exchange.specs.Tests.{sendTests, takeTests, lookTests}
 pub record Judged (s : State) : Type 0 where
   pub send :
       (a b : Rank) (v : ℕ) →
-      refusal s (Send a b v) ≡ judged passed (sendTests a b (status s a) (status s b) (connection s a b) (s .unread .count))
+      refusal s (Send a b v) ≡
+      judged passed (sendTests a b (status s a) (status s b) (connection s a b) (s .unread .count) (sentBetween a b s))
   pub take : (b a : Rank) → refusal s (Take b a) ≡ judged passed (takeTests b a (status s b) (status s a) (unreadBetween a b s))
   pub look : (r : Rank) → refusal s (Look r) ≡ judged passed (lookTests r (status s r) (firstSent (To r) (s .unread)))
 

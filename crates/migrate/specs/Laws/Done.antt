@@ -39,10 +39,11 @@ module _ (known : State) {slots contents slots' : List ℕ} where
       (r p : Rank) (m : Message) →
       First m ≡ firstSent (onSourceChannel p r) (unreadIn slots contents) →
       FirstRelabelled (onSourceChannel p r) SourceList slots contents slots' →
-      done (withUnread (unreadIn slots' contents) known) 0 (m .value) 0 ≡ drain r p (withUnread (unreadIn slots contents) known)
+      done (withUnread (unreadIn slots' contents) known) 0 (m .value) (m .sequence)
+      ≡ drain r p (withUnread (unreadIn slots contents) known)
   unfolding drain
   drain-message r p m found read =
-      ap (λ (u : Unread). done (withUnread u known) 0 (m .value) 0) (first-relabelled-unread read) ∙ rw (← found)
+      ap (λ (u : Unread). done (withUnread u known) 0 (m .value) (m .sequence)) (first-relabelled-unread read) ∙ rw (← found)
 
   -- the arrival has the mover's list, and runs
   pub land-done :

@@ -3,13 +3,13 @@ use mathlib.Core.Path.{_≡_, refl, ap, subst, _∙_}
 use mathlib.Core.Bool.{Bool, true, false, not, _&&_}
 use mathlib.Core.List.{List}
 use Prim.Native.Nat.{ℕ}
-use lib.ListN.{length}
 use Rattle.base.specs.Laws.Lists.{every-wider}
 use Rattle.base.specs.Lists.{every}
+use Rattle.transit.specs.Columns.{sentIn}
 use Rattle.transit.specs.Mail.{messagesIn, unreadIn}
 use Rattle.transit.specs.Message.{sameRank, isRank}
 use Rattle.transit.specs.Slots.{ranked}
-use Rattle.transit.specs.Unread.{Unread, nothing}
+use Rattle.transit.specs.Unread.{Unread, nothing, counted}
 use Rattle.transit.specs.declared.Message.{Message}
 use Rattle.broker.specs.Laws.Sound.{facts}
 use Rattle.broker.specs.Sound.{sound}
@@ -39,11 +39,12 @@ sound-ranked s ok =
 -- the arrays hold a sound state where they hold its messages and all else of it
 pub state-held :
     (s : State) (slots contents roster : List ℕ) → sound s ≡ true →
-    messagesIn slots contents ≡ messages s → ranksOf roster ≡ withUnread nothing s → deskOf slots contents roster ≡ s
-state-held s slots contents roster ok mail ranks =
+    messagesIn slots contents ≡ messages s → sentIn contents ≡ s .unread .sent → ranksOf roster ≡ withUnread nothing s →
+    deskOf slots contents roster ≡ s
+state-held s slots contents roster ok mail counts ranks =
     let unread : unreadIn slots contents ≡ s .unread =
-    ap (λ (l : List Message). record { messages = l; count = length l }) mail ∙
-    ap (λ (n : ℕ). record { messages = messages s; count = n }) (facts s ok .mail .counted) in
+    ap (λ (l : List Message). counted (sentIn contents) l) mail ∙ ap (λ (k : List ℕ). counted k (messages s)) counts ∙
+    ap (λ (n : ℕ). record { messages = messages s; count = n; sent = s .unread .sent }) (facts s ok .mail .counted) in
     ap (λ (u : Unread). withUnread u (ranksOf roster)) unread ∙ ap (λ (t : State). withUnread (s .unread) t) ranks
 
 -- a step on arrays that hold a sound state is a step of it

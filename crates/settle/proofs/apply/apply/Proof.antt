@@ -35,7 +35,7 @@ send-requires c κs =
     let known = c .before .before .before .before in
     let start = known .before .before in
     let fits = send-fits (desk start) _ _ _ (passing start _ (known .read4 .given .1)) in
-    (start .pre .0, ((fits .two .first, fits .two .second), fits .room))
+    (start .pre .0, ((fits .two .first, fits .two .second), (fits .room, fits .numbered)))
 
 take-requires : tie.Need-take-requires
 take-requires c κs =

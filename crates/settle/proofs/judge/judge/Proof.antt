@@ -25,9 +25,7 @@ returns-3 c =
     rw (known .read3 .given .1) (c .route-verdict .ensures (unread (known .before .before)))
 
 returns-4 : tie.Need-returns-4
-returns-4 c =
-    let start = c .before .before .before .before in
-    rw (c .before .before .read4 .given .1) (c .send-verdict .ensures (start .args .contents .now) _ (start .pre .mail))
+returns-4 c = rw (c .before .before .read4 .given .1) (c .send-verdict .ensures _)
 
 returns-5 : tie.Need-returns-5
 returns-5 c =

@@ -40,7 +40,7 @@ returns-2 c =
       holds = λ _.
           record {
             desk = record { mail = messages .kept; long = c .load2 .ensures .long };
-            same = state-held (view (start .args .broker)) _ _ _ ok (messages .same) (c .load2 .ensures .same);
+            same = state-held (view (start .args .broker)) _ _ _ ok (messages .same) (messages .counted) (c .load2 .ensures .same);
           };
     }
 

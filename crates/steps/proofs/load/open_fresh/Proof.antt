@@ -6,11 +6,10 @@ use Rattle.steps.proofs.load.open_fresh.Tie as tie
 returns : tie.Need-returns
 returns c =
     let cleared = c .before .before in
-    let start = cleared .before .before in
-    let empty = cleared .clear .ensures (start .args .contents .now) (start .pre .1 .0) in
+    let empty = cleared .clear .ensures in
     record {
       desk = record { mail = empty .kept; long = c .clear2 .ensures .long };
-      same = rw (empty .same, c .clear2 .ensures .same);
+      same = rw (empty .same, empty .counted, c .clear2 .ensures .same);
     }
 
 pub open-fresh-spec : {M : Type 1} → statement M
