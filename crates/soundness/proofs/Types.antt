@@ -36,6 +36,7 @@ typed broker vs good =
         locations-long = rw length-map at (fields .1 .0 .1 .0 .1);
         links-long = rw length-map at (fields .1 .1 .0 .1 .0 .1);
         drawn-long = rw length-map at (drawn .1 .0 .1);
+        sent-long = rw length-map at (fields .1 .1 .1 .1 .0 .1 .1 .1 .1 .0 .1 .0 .1);
       };
       numbered = λ h _. omega (arith, elem-fits-field w16 w16 (broker .drawn) _ h (drawn .1 .1) tt);
       held = held-count (broker .transit) _ (fields .1 .1 .1 .1 .0);

@@ -2,6 +2,7 @@
 pub mod Marks
 pub mod Messages
 pub mod Pairs
+pub mod Pass
 pub mod Rising
 pub mod Sound
 pub mod Walk

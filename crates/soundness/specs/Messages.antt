@@ -1,9 +1,9 @@
--- What soundness says of the messages, by one pass in order of sending. Paper 01, "Sound states".
+-- What soundness says of the messages, by passes in order of sending. Paper 01, "Sound states"; paper 02, change 4.
 -- Assumes nothing.
 use mathlib.Core.Bool.{Bool, true, not, _&&_, _||_}
 use mathlib.Core.List.{List, [], _∷_}
 use Prim.Native.Nat.{ℕ}
-use lib.Dec.{leb}
+use lib.Dec.{leb, ltb}
 use lib.ListN.{getD, set, replicate}
 use Rattle.transit.specs.Message.{number, samePlace, cells}
 use Rattle.transit.specs.Unread.{Unread, limit}
@@ -41,14 +41,30 @@ messageSoundAt ps ls m =
 abbrev pub pairOf : Message → ℕ
 pairOf m = cell (m .sender) (m .receiver)
 
--- a pass that keeps the last number of each cell: each element fits, and its number is not below the last one of its cell
-abbrev pub rises : {A : Type 0} → (A → Bool) → (A → ℕ) → (A → ℕ) → List ℕ → List A → Bool
-rises fits cellOf numberOf last [] = true
-rises fits cellOf numberOf last (x ∷ xs) =
+-- a pass that keeps the last number of each cell: each element fits, and its number may come after the last one of its cell
+abbrev pub rises : {A : Type 0} → (A → Bool) → (ℕ → ℕ → ℕ → Bool) → (A → ℕ) → (A → ℕ) → List ℕ → List A → Bool
+rises fits after cellOf numberOf last [] = true
+rises fits after cellOf numberOf last (x ∷ xs) =
     fits x &&
-    (leb (getD last (cellOf x) 0) (numberOf x) && rises fits cellOf numberOf (set last (cellOf x) (numberOf x)) xs)
+    (after (cellOf x) (getD last (cellOf x) 0) (numberOf x) &&
+    rises fits after cellOf numberOf (set last (cellOf x) (numberOf x)) xs)
 
--- "At most 1,024 messages stand."; and "Within a pair, places never fall along the order of sending."
+-- a number that is not below the last one, whatever its cell
+abbrev pub notBelow : ℕ → ℕ → ℕ → Bool
+notBelow k last n = leb last n
+
+-- a number above the last one of its cell, and not above the most of it
+abbrev pub within : List ℕ → ℕ → ℕ → ℕ → Bool
+within most k last n = ltb last n && leb n (getD most k 0)
+
+-- each message by itself, and "Within a pair, places never fall along the order of sending."
+abbrev pub placesRise : List Process → List Link → Unread → Bool
+placesRise ps ls u = rises (messageSoundAt ps ls) notBelow pairOf number (replicate cells 0) (u .messages)
+
+-- Paper 02, change 4: "Sound pairs have unread numbers rising within 1 to the count sent."
+abbrev pub numbersRise : Unread → Bool
+numbersRise u = rises isNamed (within (u .sent)) pairOf (λ m. m .sequence) (replicate cells 0) (u .messages)
+
+-- "At most 1,024 messages stand."; and each is after the last of its pair
 unfoldable pub messagesSound : List Process → List Link → Unread → Bool
-messagesSound ps ls u =
-    leb (u .count) limit && rises (messageSoundAt ps ls) pairOf number (replicate cells 0) (u .messages)
+messagesSound ps ls u = leb (u .count) limit && placesRise ps ls u && numbersRise u

@@ -1,4 +1,5 @@
-// The unread messages in order of sending: each by its sender and its receiver, and each after the last of its pair.
+// The unread messages in order of sending: each by its sender and its receiver, and each after the last of its pair. Paper 01, "Sound
+// states"; paper 02, change 4.
 ghost use mathlib.Core.Path.{_≡_};
 ghost use Rattle.transit.specs.Unread.{unreadOf};
 ghost use Rattle.broker.specs.Laws.Sound.{isNamed};
@@ -45,8 +46,9 @@ fn message_fits(m: Message, sender: Process, receiver: Process, back: Link) -> b
     from.is_started() & to.is_live() & place_fits(place, to, back)
 }
 
-// Every message, up to the first that fails or is at a lower place than the last of its pair. A message at the place of that last one
-// is not tested again: whether it fits depends on its pair and its place alone.
+// Every message, up to the first that fails, or whose running number is not above that of the last of its pair or is above the count sent,
+// or that is at a lower place than that last one. At the place of that last one a message is not tested again: whether it fits depends on
+// its pair and its place alone.
 pub fn messages_sound(processes: [Process; RANKS], links: [Link; CELLS], t: Transit) -> bool
     ensures { λ r. ⌜ r ≡ messagesSound processes links (unreadOf t) ⌝ }
 {
@@ -56,6 +58,9 @@ pub fn messages_sound(processes: [Process; RANKS], links: [Link; CELLS], t: Tran
     }
     // One more than the number of the place of each pair's last message, and 0 where it had none yet.
     let mut last = [0u8; CELLS];
+    // The running number of each pair's last message, and 0 where it had none yet. Paper 02, change 4: "Sound pairs have unread numbers
+    // rising within 1 to the count sent."
+    let mut numbers = [0u32; CELLS];
     let mut i: usize = 0;
     while i < count {
         let m = t.messages[i];
@@ -65,6 +70,13 @@ pub fn messages_sound(processes: [Process; RANKS], links: [Link; CELLS], t: Tran
         let from = m.sender.0 as usize;
         let to = m.receiver.0 as usize;
         let pair = RANKS * from + to;
+        let number = m.sequence;
+        let before = numbers[pair];
+        let sent = t.sent[pair];
+        if !((before < number) & (number <= sent)) {
+            return false;
+        }
+        numbers[pair] = number;
         let place = m.place;
         let mark = place.number() + 1;
         if last[pair] != mark {

@@ -7,14 +7,13 @@ use Prim.Native.Nat.{ℕ, _+_, _<_, _≤_}
 use native.Mathlib.Numerals.{add-one}
 use native.Mathlib.Omega.{arith}
 use borrow.Author.Tests.{eqb-true, le-leb, lt-leb}
-use lib.Dec.{eqb, leb, leb·suc-suc}
+use lib.Dec.{eqb, leb, leb·zero, leb·suc-suc}
 use lib.ListN.{length, getD, set, replicate, length-replicate, getD-replicate}
 use lib.Seq.{set-getD}
 use Rattle.base.specs.Laws.Stores.{long-set, getD-set}
 use Rattle.base.specs.Laws.Tests.{by-test, same-truth}
-use Rattle.base.specs.Lists.{every, neverFalls}
-use Rattle.soundness.specs.Laws.Rising.{rises-tells, rises-of}
-use Rattle.soundness.specs.Messages.{rises}
+use Rattle.soundness.specs.Laws.Rising.{inTurn, rises-tells, rises-of}
+use Rattle.soundness.specs.Messages.{rises, notBelow}
 
 -- one more than an element's number
 abbrev pub markOf : {A : Type 0} → (A → ℕ) → A → ℕ
@@ -25,23 +24,24 @@ pub record Passing {A : Type 0} (fits named : A → Bool) (cellOf numberOf : A �
     (answer : Bool) (last : List ℕ) (rest : List A) : Type 0 where
   pub long : length last ≡ n
   pub tested : (x : A) → named x ≡ true → getD last (cellOf x) 0 ≡ markOf numberOf x → fits x ≡ true
-  pub same : rises fits cellOf (markOf numberOf) last rest ≡ answer
+  pub same : rises fits notBelow cellOf (markOf numberOf) last rest ≡ answer
 
 module _ {A : Type 0} (numberOf : A → ℕ) where
-  -- No mark of a list is below a mark where no number is below its number.
-  every-more : (n : ℕ) (l : List A) → every (leb (n + 1)) (map (markOf numberOf) l) ≡ every (leb n) (map numberOf l)
-  every-more n [] = refl
-  every-more n (x ∷ l) = rw (add-one n, add-one (numberOf x), leb·suc-suc, ← add-one n, every-more n l)
+  -- Marks come after a mark where the numbers do after its number.
+  marks-follow : (n : ℕ) (l : List A) → inTurn leb (n + 1) (map (markOf numberOf) l) ≡ inTurn leb n (map numberOf l)
+  marks-follow n [] = refl
+  marks-follow n (x ∷ l) =
+      rw (marks-follow (numberOf x) l, add-one n, add-one (numberOf x), leb·suc-suc)
 
   -- Marks fall where the numbers do.
-  marks-fall : (l : List A) → neverFalls (map (markOf numberOf) l) ≡ neverFalls (map numberOf l)
+  marks-fall : (l : List A) → inTurn leb 0 (map (markOf numberOf) l) ≡ inTurn leb 0 (map numberOf l)
   marks-fall [] = refl
-  marks-fall (x ∷ l) = rw (every-more (numberOf x) l, marks-fall l)
+  marks-fall (x ∷ l) = rw (marks-follow (numberOf x) l, leb·zero (markOf numberOf x), leb·zero (numberOf x))
 
 -- The pass by marks begins with the answer of the pass by numbers.
 pub pass-begins : {A : Type 0} (fits named : A → Bool) (cellOf numberOf : A → ℕ) (n : ℕ) → ((x : A) → fits x ≡ true → cellOf x < n)
-    → ((x : A) → named x ≡ true → cellOf x < n) → (answer : Bool) (l : List A) → rises fits cellOf numberOf (replicate n 0) l ≡ answer
-    → Passing fits named cellOf numberOf n answer (replicate n 0) l
+    → ((x : A) → named x ≡ true → cellOf x < n) → (answer : Bool) (l : List A)
+    → rises fits notBelow cellOf numberOf (replicate n 0) l ≡ answer → Passing fits named cellOf numberOf n answer (replicate n 0) l
 pass-begins fits named cellOf numberOf n inside below answer l same =
     record {
       long = length-replicate {A = ℕ} n 0;
@@ -49,11 +49,11 @@ pass-begins fits named cellOf numberOf n inside below answer l same =
       same =
           same-truth _ _
           (λ h.
-          let told = rises-tells fits cellOf (markOf numberOf) n inside l h in
-          rises-of fits cellOf numberOf n inside l (told .0) (λ k b. rw (marks-fall numberOf) at (told .1 k b)))
+          let told = rises-tells fits notBelow cellOf (markOf numberOf) n inside l h in
+          rises-of fits notBelow cellOf numberOf n inside l (told .0) (λ k b. rw (marks-fall numberOf) at (told .1 k b)))
           (λ h.
-          let told = rises-tells fits cellOf numberOf n inside l h in
-          rises-of fits cellOf (markOf numberOf) n inside l (told .0) (λ k b. rw (marks-fall numberOf) (told .1 k b))) ∙
+          let told = rises-tells fits notBelow cellOf numberOf n inside l h in
+          rises-of fits notBelow cellOf (markOf numberOf) n inside l (told .0) (λ k b. rw (marks-fall numberOf) (told .1 k b))) ∙
           same;
     }
 

@@ -1,18 +1,16 @@
--- Tests at every message; and messages with names in range: the cell of a message's pair, the messages of a pair as those of its cell,
--- and that those at one place fit alike.
+-- Messages with names in range: the cell of a message's pair, the messages of a pair as those of its cell, and that those at one place
+-- fit alike.
 -- Assumes nothing.
 use mathlib.Core.Path.{_≡_, refl}
-use mathlib.Core.Bool.{Bool, true, not, _&&_}
+use mathlib.Core.Bool.{Bool, true, not}
 use mathlib.Core.List.{List, [], _∷_}
-use Prim.Native.Nat.{ℕ, _<_}
+use Prim.Native.Nat.{_<_}
 use native.Mathlib.Omega.{arith}
 use borrow.Author.Tests.{ltb-true}
 use lib.Dec.{eqb}
-use Rattle.base.specs.Laws.Lists.{every-both}
 use Rattle.base.specs.Laws.Tests.{both, both-left, both-right, parts}
 use Rattle.base.specs.Lists.{select, every}
 use Rattle.transit.specs.Message.{between, number, isRank, sameRank, ranks, cells}
-use Rattle.transit.specs.Unread.{Unread}
 use Rattle.transit.specs.declared.Message.{Message}
 use Rattle.transit.specs.declared.Rank.{Rank}
 use Rattle.broker.specs.Laws.Sound.{isNamed}
@@ -20,8 +18,7 @@ use Rattle.broker.specs.Laws.State.{cell-same}
 use Rattle.broker.specs.State.{cell}
 use Rattle.broker.specs.declared.link.Link.{Link}
 use Rattle.broker.specs.declared.process.Process.{Process}
-use Rattle.soundness.specs.Messages.{messageSoundAt, pairOf, messagesSound}
-use Rattle.soundness.specs.Laws.Marks.{Passing}
+use Rattle.soundness.specs.Messages.{messageSoundAt, pairOf}
 
 -- Tests that agree wherever a third passes select the same of a list where it passes everywhere.
 pub select-agree : {A : Type 0} (w p q : A → Bool) → ((x : A) → w x ≡ true → p x ≡ q x)
@@ -29,10 +26,6 @@ pub select-agree : {A : Type 0} (w p q : A → Bool) → ((x : A) → w x ≡ tr
 select-agree w p q agree [] all = refl
 select-agree w p q agree (x ∷ l) all =
     rw (agree x (both-left (w x) (every w l) all), select-agree w p q agree l (both-right (w x) (every w l) all))
-
--- Two tests that each pass everywhere pass together everywhere.
-pub every-and : {A : Type 0} (p q : A → Bool) (l : List A) → every p l ≡ true → every q l ≡ true → every (λ x. p x && q x) l ≡ true
-every-and p q l ps qs = every-both p q (λ x. p x && q x) (λ x h k. both h k) l ps qs
 
 -- Sender and receiver of a message with names in range are ranks.
 pub named-inside : (m : Message) → isNamed m ≡ true → (m .sender .0 < ranks) × (m .receiver .0 < ranks)
@@ -64,7 +57,3 @@ fit-alike ps ls m n fits named pair place =
     let sender : n .sender .0 ≡ m .sender .0 = omega arith in
     let receiver : n .receiver .0 ≡ m .receiver .0 = omega arith in
     both named (rw (sender, receiver, ← place) (both-right (isNamed m) _ fits))
-
--- a pass by marks over messages stands before the rest of them
-abbrev pub MessagesPass : List Process → List Link → Unread → List ℕ → List Message → Type 0
-MessagesPass ps ls u last rest = Passing (messageSoundAt ps ls) isNamed pairOf number cells (messagesSound ps ls u) last rest

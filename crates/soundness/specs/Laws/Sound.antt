@@ -1,29 +1,30 @@
 -- Soundness of a state is the tests of its ranks, of its pairs and of its messages, where its arrays have their lengths and its
 -- numbers fit. Assumes nothing.
-use mathlib.Core.Path.{_≡_, ap, _∙_}
+use mathlib.Core.Path.{_≡_, ap}
 use mathlib.Core.Bool.{Bool, true, not, _&&_, _||_}
 use mathlib.Core.List.{List, [], _∷_, map}
 use Prim.Native.Nat.{ℕ, _/_, _%_, _<_, _≤_}
 use native.Mathlib.Omega.{arith}
 use borrow.Author.Tests.{leb-true, le-leb}
 use lib.Dec.{leb}
-use lib.ListN.{length}
+use lib.ListN.{length, getD}
 use Rattle.base.specs.Laws.Tests.{both, both-left, both-right, AllTrue, parts, chained, same-truth}
-use Rattle.base.specs.Lists.{neverFalls}
-use Rattle.base.specs.Laws.Lists.{every-wider}
-use Rattle.transit.specs.Message.{number, rank, cells, ranks}
+use Rattle.base.specs.Lists.{select, every}
+use Rattle.base.specs.Laws.Lists.{every-wider, every-and}
+use Rattle.transit.specs.Message.{between, number, rank, cells, ranks}
 use Rattle.transit.specs.Unread.{limit}
 use Rattle.transit.specs.declared.Message.{Message}
 use Rattle.transit.specs.declared.Rank.{Rank}
 use Rattle.broker.specs.Laws.Ranks.{everyRank-at, everyRank-of, everyPair-at, everyPair-of}
 use Rattle.broker.specs.Laws.Sound.{AtPairs, Shape, Names, Pairs, Mail, Facts, facts, of-facts, isNamed, hasEnds, fitsUnheeded, fitsPlace}
+use Rattle.broker.specs.Messages.{sentBetween}
 use Rattle.broker.specs.Names.{numbers, isStarted, isMigrating, isLive, isClosed, isOpen, isClosing, isClear}
 use Rattle.broker.specs.Sound.{sound}
 use Rattle.broker.specs.State.{State, cell, status, request, location, connection, backlog, linkAt, drawnOn, messages}
-use Rattle.soundness.specs.Laws.Messages.{every-and, has-cell, pair-is-cell}
-use Rattle.soundness.specs.Laws.Rising.{numbersIn, rises-tells, rises-of}
+use Rattle.soundness.specs.Laws.Messages.{has-cell, pair-inside, pair-is-cell}
+use Rattle.soundness.specs.Laws.Rising.{numbersIn, never-falls, rises-within, rises-tells, rises-of}
 use Rattle.soundness.specs.Laws.Walk.{cell-of}
-use Rattle.soundness.specs.Messages.{messageSoundAt, pairOf, messagesSound}
+use Rattle.soundness.specs.Messages.{messageSoundAt, pairOf, notBelow, within, placesRise, numbersRise, messagesSound}
 use Rattle.soundness.specs.Names.{vmidsDrawn}
 use Rattle.soundness.specs.Pairs.{locationFits, vmidsApart, connectionFits, backlogFits, requestFits, pairSoundAt, pairsSound}
 use Rattle.soundness.specs.Ranks.{requestDrawn, nothingWithSelf, rankSoundAt, ranksSound}
@@ -103,20 +104,33 @@ module _ (s : State) where
       chained (pairClause a b) (pairClauses a b) (f .names .tables-drawn a b h k)
       (f .names .vmids-apart a b h k, (connection-passes f a b h k, (backlog, (f .pairs .calls-fit a b h k, tt)))))
 
-  cells-rise : Mail s → (k : ℕ) → k < cells → neverFalls (numbersIn pairOf number k (messages s)) ≡ true
-  cells-rise f k h =
-      let a = rank (k / ranks) in
-      let b = rank (k % ranks) in
-      let same = rw (cell-of k) at (pair-is-cell a b (omega arith) (messages s) (f .named)) in
-      ap (λ (l : List Message). neverFalls (map number l)) same ∙ f .places-rise a b (omega arith) (omega arith)
+  -- the numbers of a cell's messages are those of its pair
+  of-cell : (f : Message → ℕ) → every isNamed (messages s) ≡ true → (k : ℕ)
+      → numbersIn pairOf f k (messages s) ≡ map f (select (between (rank (k / ranks)) (rank (k % ranks))) (messages s))
+  of-cell f named k =
+      let same = rw (cell-of k) at (pair-is-cell (rank (k / ranks)) (rank (k % ranks)) (omega arith) (messages s) named) in
+      ap (map f) same
 
-  messages-pass : Mail s → byMessages s ≡ true
-  unfolding messagesSound
-  messages-pass f =
+  places-pass : Mail s → placesRise (s .processes) (s .links) (s .unread) ≡ true
+  places-pass f =
       let l = messages s in
       let places = every-and (fitsUnheeded s) (fitsPlace s) l (f .unheeded-places) (f .places-fit) in
       let all = every-and isNamed _ l (f .named) (every-and (hasEnds s) _ l (f .ends-fit) places) in
-      both (le-leb _ _ (f .few)) (rises-of messageTest pairOf number cells (has-cell (s .processes) (s .links)) l all (cells-rise f))
+      rises-of messageTest notBelow pairOf number cells (has-cell (s .processes) (s .links)) l all
+      (λ k h.
+      let rise = f .places-rise (rank (k / ranks)) (rank (k % ranks)) (omega arith) (omega arith) in
+      rw (never-falls, of-cell number (f .named) k) rise)
+
+  numbers-pass : Mail s → numbersRise (s .unread) ≡ true
+  numbers-pass f =
+      rises-of isNamed (within (s .unread .sent)) pairOf (λ m. m .sequence) cells pair-inside (messages s) (f .named)
+      (λ k h.
+      let rise = f .numbers-rise (rank (k / ranks)) (rank (k % ranks)) (omega arith) (omega arith) in
+      rw (rises-within 0 (getD (s .unread .sent) k 0), of-cell (λ m. m .sequence) (f .named) k) (rw (cell-of k) at rise))
+
+  messages-pass : Mail s → byMessages s ≡ true
+  unfolding messagesSound
+  messages-pass f = both (both (le-leb _ _ (f .few)) (places-pass f)) (numbers-pass f)
 
   -- From the tests to soundness.
 
@@ -165,11 +179,13 @@ module _ (s : State) where
   unfolding messagesSound
   messages-hold t passes =
       let l = messages s in
-      let few = leb-true (s .unread .count) limit (both-left (leb (s .unread .count) limit) _ passes) in
-      let pass = both-right (leb (s .unread .count) limit) _ passes in
-      let told = rises-tells messageTest pairOf number cells (has-cell (s .processes) (s .links)) l pass in
+      let places = placesRise (s .processes) (s .links) (s .unread) in
+      let p = parts (leb (s .unread .count) limit) (places ∷ numbersRise (s .unread) ∷ []) passes in
+      let few = leb-true (s .unread .count) limit (p .0) in
+      let told = rises-tells messageTest notBelow pairOf number cells (has-cell (s .processes) (s .links)) l (p .1 .0) in
+      let told-too = rises-tells isNamed (within (s .unread .sent)) pairOf (λ m. m .sequence) cells pair-inside l (p .1 .1 .0) in
       let all = told .0 in
-      let named = every-wider messageTest isNamed (λ m h. both-left (isNamed m) _ h) l all in
+      let named = told-too .0 in
       record {
         few = few;
         counted = t .held few;
@@ -177,7 +193,9 @@ module _ (s : State) where
         ends-fit = every-wider messageTest (hasEnds s) (λ m h. fits-of m h .0) l all;
         unheeded-places = every-wider messageTest (fitsUnheeded s) (λ m h. both-left (fitsUnheeded s m) _ (fits-of m h .1)) l all;
         places-fit = every-wider messageTest (fitsPlace s) (λ m h. both-right (fitsUnheeded s m) _ (fits-of m h .1)) l all;
-        places-rise = λ a b h k. rw (pair-is-cell a b k l named) at (told .1 (cell a b) (omega arith));
+        places-rise = λ a b h k. rw (never-falls, pair-is-cell a b k l named) at (told .1 (cell a b) (omega arith));
+        numbers-rise = λ a b h k.
+            rw (rises-within 0 (sentBetween a b s), pair-is-cell a b k l named) at (told-too .1 (cell a b) (omega arith));
       }
 
 -- Soundness is the three tests.
