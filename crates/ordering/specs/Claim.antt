@@ -50,14 +50,15 @@ abbrev pub everyAccepted : State → List Reading → Bool
 everyAccepted s [] = true
 everyAccepted s (x ∷ xs) = isAccepted (stepAt s x .answer) && everyAccepted (stepAt s x .state) xs
 
--- an accepted step: the record that it read, and v1 of its answer
+-- an accepted step: the record that it read, and v1 and v3 of its answer
 pub record Entry : Type 0 where
   pub read : Record
   pub v1 : ℕ
+  pub v3 : ℕ
 
 -- the entry of a step that answered so to what stood at its position; only a whole record is ever accepted
 abbrev pub entryOf : Answer → Decoded → List Entry
-entryOf (Accepted v1 v2 v3) (Whole r next) = record { read = r; v1 = v1 } ∷ []
+entryOf (Accepted v1 v2 v3) (Whole r next) = record { read = r; v1 = v1; v3 = v3 } ∷ []
 entryOf (Accepted v1 v2 v3) Unknown = []
 entryOf (Accepted v1 v2 v3) Cut = []
 entryOf (Refused n) d = []

@@ -8,3 +8,4 @@ pub mod Listing
 pub mod Overlapping
 pub mod Restarts
 pub mod Full
+pub mod Numbers

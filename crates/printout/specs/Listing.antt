@@ -1,4 +1,5 @@
--- The listing of paper 01, "The printed run", computed from the definitions. Assumes nothing.
+-- The listing of paper 01, "The printed run", with the running numbers of paper 02, change 4, computed from the definitions.
+-- Assumes nothing.
 use mathlib.Core.Path.{_≡_, ap, _∙_}
 use mathlib.Core.List.{List, [], _∷_}
 use Prim.Native.Nat.{ℕ}
@@ -31,11 +32,11 @@ text =
     "38 03 0 0 2 1" ∷
     "41 04 0 3 0 0" ∷
     "48 09 19 0 0 0" ∷
-    "50 08 0 0 500 0" ∷
-    "53 08 0 0 501 0" ∷
+    "50 08 0 0 500 1" ∷
+    "53 08 0 0 501 2" ∷
     "56 08 0 1 0 0" ∷
     "59 09 0 2 0 0" ∷
-    "61 05 0 500 2 0" ∷
+    "61 05 0 500 2 1" ∷
     "pair 0 1 0 0 1 1" ∷
     "end" ∷ [])
 

@@ -11,7 +11,7 @@ use Rattle.base.specs.Laws.Tests.{both-left, both-right}
 use Rattle.transit.specs.Message.{ranks, cells}
 use Rattle.broker.specs.Checks.{refusal}
 use Rattle.broker.specs.Laws.Alike.{settled-unless-migrating, status-alike, same-standings}
-use Rattle.broker.specs.Laws.Core.{core, coreStep, valuesBetween, unread-values}
+use Rattle.broker.specs.Laws.Core.{core, coreStep, valuesBetween, unread-each}
 use Rattle.broker.specs.Laws.CoreStep.{core-step}
 use Rattle.broker.specs.Laws.Quiet.{Quiet}
 use Rattle.broker.specs.Laws.Ranks.{everyRank-at}
@@ -119,9 +119,9 @@ second-half xs landed =
       same-taken = f .same-taken;
       same-unread =
           λ a b ha hb.
-          unread-values end′ a b (f .ends-quiet .is-sound) ha hb ∙
+          unread-each (λ m. m .value) (λ m. refl) end′ a b (f .ends-quiet .is-sound) ha hb ∙
           ap (valuesBetween a b) (f .ends-alike) ∙
-          sym (unread-values end a b (sound-after xs fresh fresh-sound) ha hb);
+          sym (unread-each (λ m. m .value) (λ m. refl) end a b (sound-after xs fresh fresh-sound) ha hb);
       same-status =
           λ r hr.
           status-alike end end′ (same-standings (f .ends-alike)) (f .ends-quiet .calm) r hr ∙

@@ -13,8 +13,8 @@ use Rattle.broker.specs.Checks.{refusal}
 use Rattle.broker.specs.Kind
 use Rattle.broker.specs.Laws.Accepted.{start-fits, take-fits, move-fits, end-fits}
 use Rattle.broker.specs.Laws.Alike.{start-again, take-again, move-again, end-again, land-after}
-use Rattle.broker.specs.Laws.Core.{Core, core, coreStep, valuesBetween}
-use Rattle.broker.specs.Laws.CoreStep.{core-step, take-value}
+use Rattle.broker.specs.Laws.Core.{Core, core, coreStep, valuesBetween, sequencesBetween}
+use Rattle.broker.specs.Laws.CoreStep.{core-step, take-value, take-sequence}
 use Rattle.broker.specs.Laws.Kept.{sound-kept}
 use Rattle.broker.specs.Laws.Quiet.{AllQuiet, Moving, Quiet, start-calm, take-calm, end-calm, move-calm, land-calm}
 use Rattle.broker.specs.Laws.State.{sameRank-self}
@@ -128,7 +128,7 @@ module _ (s q : State) (x : Reading) (next : ℕ) (quiet : Quiet q) (same : core
       itself-stands (End r) reads (end-again s q same (quiet .calm) r p) (λ l. refl) (λ a b. refl)
       (end-calm q r (quiet .calm) (end-fits s r p .one .in-range))
 
-  -- A take answers the same value from both.
+  -- A take answers the same value and the same running number from both.
   pub take-stands :
       (b a : Rank) →
       sound s ≡ true →
@@ -138,10 +138,11 @@ module _ (s q : State) (x : Reading) (next : ℕ) (quiet : Quiet q) (same : core
   unfolding apply
   take-stands b a hs reads p =
       let p′ = take-again s q same (quiet .calm) b a p in
-      let here = take-value q b a (quiet .is-sound) (take-fits q b a p′) in
-      let there = take-value s b a hs (take-fits s b a p) in
-      let v1 = head-eq-of-cons-eq (here ∙ ap (valuesBetween a b) same ∙ sym there) in
-      itself-stands (Take b a) reads p′ (λ l. refl) (λ c d. ap (λ (n : ℕ). taken c d (record { read = Take b a; v1 = n } ∷ [])) v1)
+      let here = take-fits q b a p′ in
+      let there = take-fits s b a p in
+      let v1 = take-value q b a (quiet .is-sound) here ∙ ap (valuesBetween a b) same ∙ sym (take-value s b a hs there) in
+      let v3 = take-sequence q b a (quiet .is-sound) here ∙ ap (sequencesBetween a b) same ∙ sym (take-sequence s b a hs there) in
+      itself-stands (Take b a) reads p′ (λ l. refl) (λ c d. rw (head-eq-of-cons-eq v1, head-eq-of-cons-eq v3))
       (take-calm q b a (quiet .calm))
 
   -- No line stands when the rank moves, so that it lands at once.

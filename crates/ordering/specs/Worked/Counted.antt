@@ -3,7 +3,7 @@
 use mathlib.Core.Path.{_≡_, refl, ap}
 use mathlib.Core.Bool.{true, false}
 use mathlib.Core.List.{List, [], _∷_, _++_, map}
-use Prim.Native.Nat.{ℕ}
+use Prim.Native.Nat.{ℕ, _+_}
 use lib.ListN.{length, replicate}
 use Rattle.transit.specs.Message.{rank}
 use Rattle.transit.specs.Unread.{counted}
@@ -34,6 +34,7 @@ use Rattle.ordering.specs.Claim.{
   noMoveOpen,
   areBytes,
 }
+use Rattle.ordering.specs.Numbered.{numbersTaken, numbersUnread}
 use Rattle.ordering.specs.Worked.Account.{Account, computed, from-fresh}
 use Rattle.ordering.specs.Worked.Result.{Result, brief, result, Balance, balance, whole, did, process, written}
 use Rattle.ordering.specs.Worked.Unbroken.{everyKind, everyEntry}
@@ -53,8 +54,9 @@ answer-without-a-number-is-accepted = refl
 pub refusal-is-not-accepted : isAccepted (Refused NotConnected) ≡ false
 refusal-is-not-accepted = refl
 
-pub accepted-record-enters-with-v1 : entryOf (Accepted 1 2 3) (Whole (Send (rank 0) (rank 1) 7) 7) ≡ did (Send (rank 0) (rank 1) 7) 1 ∷ []
-accepted-record-enters-with-v1 = refl
+pub accepted-record-enters-with-v1-and-v3 :
+    entryOf (Accepted 1 2 3) (Whole (Send (rank 0) (rank 1) 7) 7) ≡ did (Send (rank 0) (rank 1) 7) 1 3 ∷ []
+accepted-record-enters-with-v1-and-v3 = refl
 
 pub refused-record-does-not-enter : entryOf (Refused NotConnected) (Whole (Send (rank 0) (rank 1) 7) 7) ≡ []
 refused-record-does-not-enter = refl
@@ -78,14 +80,14 @@ abbrev early-result : Result
 early-result =
     record {
       steps =
-          did (Start (rank 3) 0) 0 ∷
-          did (Start (rank 1) 1) 1 ∷
-          did (Call (rank 3) (rank 1)) 1 ∷
-          did (Route (rank 3) (rank 1)) 0 ∷
-          did (Send (rank 3) (rank 1) 6) 1 ∷
-          did (Look (rank 1)) 3 ∷ [];
+          did (Start (rank 3) 0) 0 0 ∷
+          did (Start (rank 1) 1) 1 0 ∷
+          did (Call (rank 3) (rank 1)) 1 0 ∷
+          did (Route (rank 3) (rank 1)) 0 1 ∷
+          did (Send (rank 3) (rank 1) 6) 1 0 ∷
+          did (Look (rank 1)) 3 0 ∷ [];
       processes = idle ∷ process (Running (vmid 1 1)) ∷ idle ∷ process (Running (vmid 0 1)) ∷ replicate 12 idle;
-      holds = record { sender = rank 3; receiver = rank 1; value = 6; place = Channel } ∷ [];
+      holds = record { sender = rank 3; receiver = rank 1; value = 6; sequence = 1; place = Channel } ∷ [];
     }
 
 pub early-comes-to : result early ≡ early-result
@@ -118,17 +120,17 @@ only-a-send-has-a-value = refl
 -- sends and takes of this pair, with those of other pairs and a step of every kind between them
 abbrev exchanges : List Entry
 exchanges =
-    did (Send (rank 0) (rank 1) 10) 1 ∷
-    did (Send (rank 1) (rank 0) 20) 1 ∷
-    did (Take (rank 1) (rank 0)) 10 ∷
-    did (Take (rank 0) (rank 1)) 20 ∷
-    did (Send (rank 0) (rank 2) 30) 1 ∷
-    did (Send (rank 2) (rank 1) 40) 1 ∷
-    did (Take (rank 2) (rank 0)) 30 ∷
-    did (Take (rank 1) (rank 2)) 40 ∷
+    did (Send (rank 0) (rank 1) 10) 1 0 ∷
+    did (Send (rank 1) (rank 0) 20) 1 0 ∷
+    did (Take (rank 1) (rank 0)) 10 1 ∷
+    did (Take (rank 0) (rank 1)) 20 1 ∷
+    did (Send (rank 0) (rank 2) 30) 1 0 ∷
+    did (Send (rank 2) (rank 1) 40) 1 0 ∷
+    did (Take (rank 2) (rank 0)) 30 1 ∷
+    did (Take (rank 1) (rank 2)) 40 1 ∷
     everyEntry ++
-    did (Send (rank 0) (rank 1) 11) 1 ∷
-    did (Take (rank 1) (rank 0)) 7 ∷ []
+    did (Send (rank 0) (rank 1) 11) 1 0 ∷
+    did (Take (rank 1) (rank 0)) 7 2 ∷ []
 
 pub sent-there : sent (rank 0) (rank 1) exchanges ≡ 10 ∷ 7 ∷ 11 ∷ []
 sent-there = refl
@@ -142,14 +144,20 @@ taken-there = refl
 pub taken-back : taken (rank 1) (rank 0) exchanges ≡ 20 ∷ 9 ∷ []
 taken-back = refl
 
+pub numbers-taken-there : numbersTaken (rank 0) (rank 1) exchanges ≡ 1 ∷ 2 ∷ []
+numbers-taken-there = refl
+
+pub numbers-taken-back : numbersTaken (rank 1) (rank 0) exchanges ≡ 1 ∷ 8 ∷ []
+numbers-taken-back = refl
+
 -- unread messages of this pair at each place, sent in the opposite order, with some of other pairs; no sound state has them so
 abbrev letter : ℕ → ℕ → ℕ → Place → Message
-letter a b v p = record { sender = rank a; receiver = rank b; value = v; place = p }
+letter a b v p = record { sender = rank a; receiver = rank b; value = v; sequence = v + 1; place = p }
 
 abbrev jumbled : State
 jumbled =
     withUnread
-    (counted
+    (counted (fresh .unread .sent)
     (letter 0 1 33 Channel ∷
     letter 1 0 50 SourceList ∷
     letter 0 1 22 EndList ∷
@@ -162,6 +170,9 @@ jumbled =
 
 pub unread-in-place-order : unread (rank 0) (rank 1) jumbled ≡ 0 ∷ 11 ∷ 22 ∷ 33 ∷ 34 ∷ []
 unread-in-place-order = refl
+
+pub unread-numbers-in-place-order : numbersUnread (rank 0) (rank 1) jumbled ≡ 1 ∷ 12 ∷ 23 ∷ 34 ∷ 35 ∷ []
+unread-numbers-in-place-order = refl
 
 -- Open moves.
 

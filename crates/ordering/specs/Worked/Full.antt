@@ -1,15 +1,16 @@
 -- A pair that has all 1,024 messages of the desk: a worked run from the fresh state. Paper 02, change 3: "The unread count of a pair never
 -- passes 1,024." It comes to that, and no further. Assumes nothing.
-use mathlib.Core.Path.{_≡_, refl, ap, _∙_}
+use mathlib.Core.Path.{_≡_, refl, sym, ap, _∙_}
 use mathlib.Core.Bool.{true}
-use mathlib.Core.List.{List, [], _∷_, _++_}
+use mathlib.Core.List.{List, [], _∷_, _++_, map, map-append}
 use Prim.Native.Nat.{ℕ, zero, suc, _+_, _<_, _≤_}
 use native.Mathlib.Omega.{arith}
-use lib.ListN.{replicate, length-replicate, replicate-append-replicate}
-use Rattle.base.specs.Lists.{select}
+use lib.ListN.{replicate, set, length-map}
+use Rattle.base.specs.Laws.Numbers.{upFrom-long, upFrom-append}
+use Rattle.base.specs.Lists.{select, upFrom}
 use Rattle.transit.specs.Laws.Operations.{appends}
-use Rattle.transit.specs.Message.{rank, between}
-use Rattle.transit.specs.Unread.{AfterAppend, limit}
+use Rattle.transit.specs.Message.{rank, between, pairOf}
+use Rattle.transit.specs.Unread.{Unread, AfterAppend, limit, nothing}
 use Rattle.transit.specs.declared.Message.{Message}
 use Rattle.transit.specs.declared.Place.the-variants.{Channel}
 use Rattle.transit.specs.declared.Rank.{Rank}
@@ -34,24 +35,27 @@ use Rattle.ordering.specs.Worked.Result.{whole, did, written, readings}
 -- rank 0 and rank 1 are joined
 abbrev joining : List Entry
 joining =
-    did (Start (rank 0) 0) 0 ∷
-    did (Start (rank 1) 1) 1 ∷
-    did (Call (rank 0) (rank 1)) 1 ∷
-    did (Route (rank 0) (rank 1)) 0 ∷ []
+    did (Start (rank 0) 0) 0 0 ∷
+    did (Start (rank 1) 1) 1 0 ∷
+    did (Call (rank 0) (rank 1)) 1 0 ∷
+    did (Route (rank 0) (rank 1)) 0 1 ∷ []
 
 abbrev joined : State
 joined = computed (readings joining) .end
 
--- a send from rank 0 to rank 1, and the message that it adds
+-- a send from rank 0 to rank 1, and the message that it adds, with its running number
 abbrev sending : Reading
 sending = whole (written (Send (rank 0) (rank 1) 7))
 
-abbrev message : Message
-message = record { sender = rank 0; receiver = rank 1; value = 7; place = Channel }
+abbrev message : ℕ → Message
+message k = record { sender = rank 0; receiver = rank 1; value = 7; sequence = k; place = Channel }
 
--- the two ranks with so many messages unread
+-- the two ranks with so many messages sent and unread
+abbrev mail : ℕ → List Message → Unread
+mail n l = record { messages = l; count = n; sent = set (nothing .sent) (pairOf (rank 0) (rank 1)) n }
+
 abbrev laden : ℕ → State
-laden n = withUnread (record { messages = replicate n message; count = n }) joined
+laden n = withUnread (mail n (map message (upFrom 1 n))) joined
 
 -- A send can be made while fewer than 1,024 are unread.
 send-fits : (n : ℕ) → n < limit → SendFits (laden n) (rank 0) (rank 1)
@@ -62,7 +66,15 @@ send-fits n room =
       running = refl;
       line = refl;
       room = room;
+      numbered = omega arith;
     }
+
+-- The next message is behind those before it.
+one-message : (n : ℕ) → map message (upFrom 1 n) ++ message (n + 1) ∷ [] ≡ map message (upFrom 1 (n + 1))
+unfolding upFrom
+one-message n =
+    let next : 1 + n ≡ n + 1 = omega arith in
+    sym (map-append message (upFrom 1 n) (upFrom (n + 1) 1)) ∙ ap (map message) (rw next at (upFrom-append 1 n 1))
 
 -- One more message is unread after a send.
 one-more : (n : ℕ) → n < limit → sound (laden n) ≡ true → stepAt (laden n) sending .state ≡ laden (n + 1)
@@ -71,8 +83,8 @@ one-more n room h =
     ap (λ (o : Outcome). o .state)
     (step-accepted (rank 0) (laden n) (sending .log) 0 (Send (rank 0) (rank 1) 7) 7 h refl
     (send-accepted (laden n) (rank 0) (rank 1) 7 (send-fits n room))) ∙
-    ap (λ (u : AfterAppend). withUnread (u .unread) joined) (appends (laden n .unread) message room) ∙
-    ap (λ (l : List Message). withUnread (record { messages = l; count = n + 1 }) joined) (replicate-append-replicate n 1 message)
+    ap (λ (u : AfterAppend). withUnread (u .unread) joined) (appends (laden n .unread) (rank 0) (rank 1) Channel 7 room) ∙
+    ap (λ (l : List Message). withUnread (mail (n + 1) l) joined) (one-message n)
 
 -- So many more are unread after so many sends.
 fills : (k n : ℕ) → n + k ≤ limit → sound (laden n) ≡ true → after (laden n) (replicate k sending) ≡ laden (n + k)
@@ -89,7 +101,7 @@ filling n = readings joining ++ replicate n sending
 
 -- Before the sends nothing is unread.
 begins : after fresh (readings joining) ≡ laden 0
-unfolding computed
+unfolding computed upFrom
 begins = ap (λ (t : Account). t .end) (from-fresh (readings joining))
 
 -- Behind them as many messages are unread as were sent.
@@ -100,13 +112,13 @@ leaves n room =
     ap (λ (s : State). after s (replicate n sending)) begins ∙ fills n 0 (omega arith) start ∙ ap laden sum
 
 -- All of them are of the pair.
-of-the-pair : (n : ℕ) → select (between (rank 0) (rank 1)) (replicate n message) ≡ replicate n message
-of-the-pair zero = refl
-of-the-pair (suc n) = ap (λ (l : List Message). message ∷ l) (of-the-pair n)
+of-the-pair : (l : List ℕ) → select (between (rank 0) (rank 1)) (map message l) ≡ map message l
+of-the-pair [] = refl
+of-the-pair (k ∷ l) = ap (λ (ms : List Message). message k ∷ ms) (of-the-pair l)
 
 -- After so many sends, up to 1,024, the pair has as many unread.
 pub counts-them-all : (n : ℕ) → n ≤ limit → unreadBetween (rank 0) (rank 1) (after fresh (filling n)) ≡ n
-counts-them-all n room = rw (leaves n room, of-the-pair n) (length-replicate n message)
+counts-them-all n room = rw (leaves n room, of-the-pair (upFrom 1 n), length-map) (upFrom-long 1 n)
 
 -- No list of steps leaves more to any pair than 1,024 sends leave to this one.
 pub none-leaves-more : (xs : List Reading) (a b : Rank)
@@ -122,17 +134,17 @@ full-sound = sound-after (filling limit) fresh fresh-sound
 
 -- One more send is refused with 24.
 pub one-more-is-refused : stepAt (after fresh (filling limit)) sending .answer ≡ Refused Full
-unfolding computedFrom computed
+unfolding computedFrom computed upFrom
 one-more-is-refused =
     ap (λ (o : Outcome). o .answer) (step-of-sound (rank 0) (after fresh (filling limit)) (sending .log) 0 full-sound) ∙
     ap (λ (s : State). opened (rank 0) s (sending .log) 0 .answer) full-leaves
 
 -- a part, a move and a landing, of which the first and the last count all 1,024
 abbrev carrying : List Entry
-carrying = did (Part (rank 1) (rank 0)) limit ∷ did (Move (rank 1) 2) 2 ∷ did (Land (rank 1)) limit ∷ []
+carrying = did (Part (rank 1) (rank 0)) limit 0 ∷ did (Move (rank 1) 2) 2 0 ∷ did (Land (rank 1)) limit 0 ∷ []
 
 pub all-are-carried : accepted (after fresh (filling limit)) (readings carrying) ≡ carrying
-unfolding computedFrom computed
+unfolding computedFrom computed upFrom
 all-are-carried =
     ap (λ (t : Account). t .steps) (from-sound (after fresh (filling limit)) (readings carrying) full-sound) ∙
     ap (λ (s : State). computedFrom s (readings carrying) .steps) full-leaves

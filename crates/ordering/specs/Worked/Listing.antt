@@ -49,27 +49,27 @@ abbrev listing-result : Result
 listing-result =
     record {
       steps =
-          did (Start (rank 0) 0) 0 ∷
-          did (Start (rank 1) 1) 1 ∷
-          did (Call (rank 0) (rank 1)) 1 ∷
-          did (Route (rank 0) (rank 1)) 0 ∷
-          did (Send (rank 0) (rank 1) 500) 1 ∷
-          did (Move (rank 1) 2) 2 ∷
-          did (Send (rank 0) (rank 1) 501) 2 ∷
-          did (Heed (rank 0) (rank 1)) 0 ∷
-          did (Call (rank 0) (rank 1)) 1 ∷
-          did (Route (rank 0) (rank 1)) 1 ∷
-          did (Route (rank 0) (rank 1)) 0 ∷
-          did (Send (rank 0) (rank 1) 502) 3 ∷
-          did (Drain (rank 1) (rank 0)) 0 ∷
-          did (Drain (rank 1) (rank 0)) 0 ∷
-          did (Drain (rank 1) (rank 0)) 1 ∷
-          did (Land (rank 1)) 2 ∷
-          did (Take (rank 1) (rank 0)) 500 ∷ [];
+          did (Start (rank 0) 0) 0 0 ∷
+          did (Start (rank 1) 1) 1 0 ∷
+          did (Call (rank 0) (rank 1)) 1 0 ∷
+          did (Route (rank 0) (rank 1)) 0 1 ∷
+          did (Send (rank 0) (rank 1) 500) 1 0 ∷
+          did (Move (rank 1) 2) 2 1 ∷
+          did (Send (rank 0) (rank 1) 501) 2 0 ∷
+          did (Heed (rank 0) (rank 1)) 0 0 ∷
+          did (Call (rank 0) (rank 1)) 1 0 ∷
+          did (Route (rank 0) (rank 1)) 1 1 ∷
+          did (Route (rank 0) (rank 1)) 0 1 ∷
+          did (Send (rank 0) (rank 1) 502) 3 0 ∷
+          did (Drain (rank 1) (rank 0)) 0 1 ∷
+          did (Drain (rank 1) (rank 0)) 0 2 ∷
+          did (Drain (rank 1) (rank 0)) 1 0 ∷
+          did (Land (rank 1)) 2 0 ∷
+          did (Take (rank 1) (rank 0)) 500 1 ∷ [];
       processes = process (Running (vmid 0 1)) ∷ process (Running (vmid 2 1)) ∷ replicate 14 idle;
       holds =
-          record { sender = rank 0; receiver = rank 1; value = 501; place = EndList } ∷
-          record { sender = rank 0; receiver = rank 1; value = 502; place = Channel } ∷ [];
+          record { sender = rank 0; receiver = rank 1; value = 501; sequence = 2; place = EndList } ∷
+          record { sender = rank 0; receiver = rank 1; value = 502; sequence = 3; place = Channel } ∷ [];
     }
 
 pub listing-comes-to : result listing ≡ listing-result

@@ -16,13 +16,13 @@ use Rattle.ordering.specs.Worked.Overlapping.{overlapping, apart, Overla
 use Rattle.ordering.specs.Worked.Result.{Result, brief, result, Balance, balance, second, did, process, readings}
 
 -- Two joined ranks restart at once on host 0, where both run: the run of two moves that overlap.
-pub restarting-at-once : Overlaps 0 0 0 0 (vmid 0 3) (vmid 0 4)
+pub restarting-at-once : Overlaps 0 0 0 0 2 3 (vmid 0 3) (vmid 0 4)
 unfolding computed
 restarting-at-once =
-    overlaps 0 0 0 0 (vmid 0 3) (vmid 0 4)
-    (ap brief (from-fresh (readings (overlapping 0 0 0 0))))
-    (ap brief (from-fresh (readings (apart 0 0 0 0))))
-    (ap (λ (t : Account). t .all) (from-fresh (readings (apart 0 0 0 0))))
+    overlaps 0 0 0 0 2 3 (vmid 0 3) (vmid 0 4)
+    (ap brief (from-fresh (readings (overlapping 0 0 0 0 2 3))))
+    (ap brief (from-fresh (readings (apart 0 0 0 0 2 3))))
+    (ap (λ (t : Account). t .all) (from-fresh (readings (apart 0 0 0 0 2 3))))
     refl
     refl
 
@@ -30,50 +30,50 @@ restarting-at-once =
 abbrev both-open : Result
 both-open =
     record {
-      steps = take 9 (overlapping 0 0 0 0);
+      steps = take 9 (overlapping 0 0 0 0 2 3);
       processes =
           process (Migrating (vmid 0 1) (vmid 0 3)) ∷ process (Migrating (vmid 0 2) (vmid 0 4)) ∷ replicate 14 idle;
       holds =
-          record { sender = rank 0; receiver = rank 1; value = 10; place = SourceChannel } ∷
-          record { sender = rank 1; receiver = rank 0; value = 20; place = SourceChannel } ∷
-          record { sender = rank 1; receiver = rank 0; value = 21; place = SourceChannel } ∷ [];
+          record { sender = rank 0; receiver = rank 1; value = 10; sequence = 1; place = SourceChannel } ∷
+          record { sender = rank 1; receiver = rank 0; value = 20; sequence = 1; place = SourceChannel } ∷
+          record { sender = rank 1; receiver = rank 0; value = 21; sequence = 2; place = SourceChannel } ∷ [];
     }
 
-pub both-are-open : result (readings (take 9 (overlapping 0 0 0 0))) ≡ both-open
+pub both-are-open : result (readings (take 9 (overlapping 0 0 0 0 2 3))) ≡ both-open
 unfolding computed
-both-are-open = ap brief (from-fresh (readings (take 9 (overlapping 0 0 0 0))))
+both-are-open = ap brief (from-fresh (readings (take 9 (overlapping 0 0 0 0 2 3))))
 
 -- One rank restarts twice: rank 1, which runs on host 1. A message is on the lane to it at its first restart, and one follows on the
 -- notice. A third is on the lane at its second restart, when the first two are in its list, and a fourth goes to the arrival.
 abbrev twice : List Entry
 twice =
-    did (Start (rank 0) 0) 0 ∷
-    did (Start (rank 1) 1) 1 ∷
-    did (Call (rank 0) (rank 1)) 1 ∷
-    did (Route (rank 0) (rank 1)) 0 ∷
-    did (Send (rank 0) (rank 1) 50) 1 ∷
-    did (Move (rank 1) 1) 1 ∷
-    did (Send (rank 0) (rank 1) 51) 2 ∷
-    did (Heed (rank 0) (rank 1)) 0 ∷
-    did (Drain (rank 1) (rank 0)) 0 ∷
-    did (Drain (rank 1) (rank 0)) 0 ∷
-    did (Drain (rank 1) (rank 0)) 1 ∷
-    did (Land (rank 1)) 2 ∷
-    did (Call (rank 0) (rank 1)) 1 ∷
-    did (Route (rank 0) (rank 1)) 1 ∷
-    did (Route (rank 0) (rank 1)) 0 ∷
-    did (Send (rank 0) (rank 1) 52) 3 ∷
-    did (Move (rank 1) 1) 1 ∷
-    did (Heed (rank 0) (rank 1)) 0 ∷
-    did (Call (rank 0) (rank 1)) 1 ∷
-    did (Route (rank 0) (rank 1)) 1 ∷
-    did (Route (rank 0) (rank 1)) 0 ∷
-    did (Send (rank 0) (rank 1) 53) 4 ∷
-    did (Drain (rank 1) (rank 0)) 0 ∷
-    did (Drain (rank 1) (rank 0)) 1 ∷
-    did (Land (rank 1)) 3 ∷
-    did (Take (rank 1) (rank 0)) 50 ∷
-    did (Take (rank 1) (rank 0)) 51 ∷ []
+    did (Start (rank 0) 0) 0 0 ∷
+    did (Start (rank 1) 1) 1 0 ∷
+    did (Call (rank 0) (rank 1)) 1 0 ∷
+    did (Route (rank 0) (rank 1)) 0 1 ∷
+    did (Send (rank 0) (rank 1) 50) 1 0 ∷
+    did (Move (rank 1) 1) 1 1 ∷
+    did (Send (rank 0) (rank 1) 51) 2 0 ∷
+    did (Heed (rank 0) (rank 1)) 0 0 ∷
+    did (Drain (rank 1) (rank 0)) 0 1 ∷
+    did (Drain (rank 1) (rank 0)) 0 2 ∷
+    did (Drain (rank 1) (rank 0)) 1 0 ∷
+    did (Land (rank 1)) 2 0 ∷
+    did (Call (rank 0) (rank 1)) 1 0 ∷
+    did (Route (rank 0) (rank 1)) 1 2 ∷
+    did (Route (rank 0) (rank 1)) 0 2 ∷
+    did (Send (rank 0) (rank 1) 52) 3 0 ∷
+    did (Move (rank 1) 1) 1 1 ∷
+    did (Heed (rank 0) (rank 1)) 0 0 ∷
+    did (Call (rank 0) (rank 1)) 1 0 ∷
+    did (Route (rank 0) (rank 1)) 1 3 ∷
+    did (Route (rank 0) (rank 1)) 0 3 ∷
+    did (Send (rank 0) (rank 1) 53) 4 0 ∷
+    did (Drain (rank 1) (rank 0)) 0 3 ∷
+    did (Drain (rank 1) (rank 0)) 1 0 ∷
+    did (Land (rank 1)) 3 0 ∷
+    did (Take (rank 1) (rank 0)) 50 1 ∷
+    did (Take (rank 1) (rank 0)) 51 2 ∷ []
 
 -- rank 1 runs with its third number; the message of the second restart is in its list, the last one on the lane to it
 abbrev thrice-started : List Entry → Result
@@ -82,8 +82,8 @@ thrice-started es =
       steps = es;
       processes = process (Running (vmid 0 1)) ∷ process (Running (vmid 1 3)) ∷ replicate 14 idle;
       holds =
-          record { sender = rank 0; receiver = rank 1; value = 52; place = EndList } ∷
-          record { sender = rank 0; receiver = rank 1; value = 53; place = Channel } ∷ [];
+          record { sender = rank 0; receiver = rank 1; value = 52; sequence = 3; place = EndList } ∷
+          record { sender = rank 0; receiver = rank 1; value = 53; sequence = 4; place = Channel } ∷ [];
     }
 
 pub twice-comes-to : result (readings twice) ≡ thrice-started twice
@@ -98,28 +98,28 @@ twice-there =
 -- A second list for it: each restart lands at once.
 abbrev one-by-one : List Entry
 one-by-one =
-    did (Start (rank 0) 0) 0 ∷
-    did (Start (rank 1) 1) 1 ∷
-    did (Call (rank 0) (rank 1)) 1 ∷
-    did (Route (rank 0) (rank 1)) 0 ∷
-    did (Send (rank 0) (rank 1) 50) 1 ∷
-    did (Part (rank 0) (rank 1)) 0 ∷
-    did (Move (rank 1) 1) 1 ∷
-    did (Land (rank 1)) 1 ∷
-    did (Call (rank 0) (rank 1)) 1 ∷
-    did (Route (rank 0) (rank 1)) 1 ∷
-    did (Route (rank 0) (rank 1)) 0 ∷
-    did (Send (rank 0) (rank 1) 51) 2 ∷
-    did (Send (rank 0) (rank 1) 52) 3 ∷
-    did (Part (rank 0) (rank 1)) 0 ∷
-    did (Move (rank 1) 1) 1 ∷
-    did (Land (rank 1)) 3 ∷
-    did (Call (rank 0) (rank 1)) 1 ∷
-    did (Route (rank 0) (rank 1)) 1 ∷
-    did (Route (rank 0) (rank 1)) 0 ∷
-    did (Send (rank 0) (rank 1) 53) 4 ∷
-    did (Take (rank 1) (rank 0)) 50 ∷
-    did (Take (rank 1) (rank 0)) 51 ∷ []
+    did (Start (rank 0) 0) 0 0 ∷
+    did (Start (rank 1) 1) 1 0 ∷
+    did (Call (rank 0) (rank 1)) 1 0 ∷
+    did (Route (rank 0) (rank 1)) 0 1 ∷
+    did (Send (rank 0) (rank 1) 50) 1 0 ∷
+    did (Part (rank 0) (rank 1)) 0 0 ∷
+    did (Move (rank 1) 1) 1 0 ∷
+    did (Land (rank 1)) 1 0 ∷
+    did (Call (rank 0) (rank 1)) 1 0 ∷
+    did (Route (rank 0) (rank 1)) 1 2 ∷
+    did (Route (rank 0) (rank 1)) 0 2 ∷
+    did (Send (rank 0) (rank 1) 51) 2 0 ∷
+    did (Send (rank 0) (rank 1) 52) 3 0 ∷
+    did (Part (rank 0) (rank 1)) 0 0 ∷
+    did (Move (rank 1) 1) 1 0 ∷
+    did (Land (rank 1)) 3 0 ∷
+    did (Call (rank 0) (rank 1)) 1 0 ∷
+    did (Route (rank 0) (rank 1)) 1 3 ∷
+    did (Route (rank 0) (rank 1)) 0 3 ∷
+    did (Send (rank 0) (rank 1) 53) 4 0 ∷
+    did (Take (rank 1) (rank 0)) 50 1 ∷
+    did (Take (rank 1) (rank 0)) 51 2 ∷ []
 
 pub one-by-one-comes-to : result (readings one-by-one) ≡ thrice-started one-by-one
 unfolding computed

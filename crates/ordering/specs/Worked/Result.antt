@@ -125,12 +125,12 @@ second xs ys r q there here bytes all moves five took holds processes =
       same-status = λ r hr. ap (λ (ps : List Process). getD ps (r .0) idle .status) same-processes;
     }
 
--- a record that is a whole log; an accepted record with its v1; and a process with no call
+-- a record that is a whole log; an accepted record with its v1 and v3; and a process with no call
 abbrev pub whole : List ℕ → Reading
 whole log = record { log = log; at = 0; named = rank 0 }
 
-abbrev pub did : Record → ℕ → Entry
-did r v1 = record { read = r; v1 = v1 }
+abbrev pub did : Record → ℕ → ℕ → Entry
+did r v1 v3 = record { read = r; v1 = v1; v3 = v3 }
 
 abbrev pub process : Status → Process
 process t = record { status = t; request = Absent }

@@ -28,7 +28,7 @@ everyKind =
     Look (rank 0) ∷ []
 
 abbrev pub everyEntry : List Entry
-everyEntry = map (λ (r : Record). did r 9) everyKind
+everyEntry = map (λ (r : Record). did r 9 8) everyKind
 
 -- The five kinds, in list order and with their bodies.
 pub five-of-every-kind :

@@ -36,15 +36,15 @@ unlanded =
 
 abbrev unlanded-steps : List Entry
 unlanded-steps =
-    did (Start (rank 0) 0) 0 ∷
-    did (Start (rank 1) 1) 1 ∷
-    did (Call (rank 0) (rank 1)) 1 ∷
-    did (Route (rank 0) (rank 1)) 0 ∷
-    did (Send (rank 0) (rank 1) 500) 1 ∷
-    did (Send (rank 0) (rank 1) 501) 2 ∷
-    did (Take (rank 1) (rank 0)) 500 ∷
-    did (Move (rank 1) 2) 2 ∷
-    did (Send (rank 0) (rank 1) 502) 2 ∷ []
+    did (Start (rank 0) 0) 0 0 ∷
+    did (Start (rank 1) 1) 1 0 ∷
+    did (Call (rank 0) (rank 1)) 1 0 ∷
+    did (Route (rank 0) (rank 1)) 0 1 ∷
+    did (Send (rank 0) (rank 1) 500) 1 0 ∷
+    did (Send (rank 0) (rank 1) 501) 2 0 ∷
+    did (Take (rank 1) (rank 0)) 500 1 ∷
+    did (Move (rank 1) 2) 2 1 ∷
+    did (Send (rank 0) (rank 1) 502) 2 0 ∷ []
 
 abbrev open-move : Result
 open-move =
@@ -52,8 +52,8 @@ open-move =
       steps = unlanded-steps;
       processes = process (Running (vmid 0 1)) ∷ process (Migrating (vmid 1 1) (vmid 2 1)) ∷ replicate 14 idle;
       holds =
-          record { sender = rank 0; receiver = rank 1; value = 501; place = SourceChannel } ∷
-          record { sender = rank 0; receiver = rank 1; value = 502; place = SourceChannel } ∷ [];
+          record { sender = rank 0; receiver = rank 1; value = 501; sequence = 2; place = SourceChannel } ∷
+          record { sender = rank 0; receiver = rank 1; value = 502; sequence = 3; place = SourceChannel } ∷ [];
     }
 
 pub unlanded-comes-to : result unlanded ≡ open-move

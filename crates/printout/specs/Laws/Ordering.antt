@@ -1,5 +1,6 @@
--- The ordering claim for what a run from the fresh state leaves: the steps that the run takes are a list of steps, and it leaves what
--- the list leaves; after any number of whole records, and after a run in pieces. Paper 01, "Lists of steps". Assumes nothing.
+-- The ordering claim, and that of the running numbers, for what a run from the fresh state leaves: the steps that the run takes are a list
+-- of steps, and it leaves what the list leaves; after any number of whole records, and after a run in pieces. Paper 01, "Lists of steps";
+-- paper 02, change 4. Assumes nothing.
 use mathlib.Core.Path.{_≡_, refl, ap, sym, _∙_}
 use mathlib.Core.Bool.{true, cond}
 use mathlib.Core.List.{List, [], _∷_, _++_, map}
@@ -12,8 +13,10 @@ use Rattle.transit.specs.declared.Rank.{Rank}
 use Rattle.broker.specs.Record.{decode}
 use Rattle.broker.specs.State.{State, fresh}
 use Rattle.ordering.specs.Claim.{Reading, SecondList, after, accepted, taken, sent, unread, noMoveOpen}
+use Rattle.ordering.specs.Laws.Numbers.{numbered}
 use Rattle.ordering.specs.Laws.Ordering.{ordering}
 use Rattle.ordering.specs.Laws.Runs.{fresh-sound}
+use Rattle.ordering.specs.Numbered.{Numbers}
 use Rattle.checks.specs.Look.{nameFor}
 use Rattle.printout.specs.Laws.Pieces.{run-in-pieces}
 use Rattle.printout.specs.Laws.Steps.{same-state}
@@ -51,12 +54,13 @@ module _ (named : Naming) where
       (λ t. rw t (refl, refl))
 
   -- both halves of the claim, for the first steps of a log and the state that they leave: what was taken and then what is unread is what
-  -- was sent, and where no move is open there is a second list
+  -- was sent, and where no move is open there is a second list; and the running numbers, taken and then unread, are 1 to the count sent
   pub record Ordered (n : ℕ) (log : List ℕ) (s : State) : Type 0 where
     pub first-half :
         (a b : Rank) → a .0 < ranks → b .0 < ranks →
         let steps = accepted fresh (readings named n fresh log 0) in taken a b steps ++ unread a b s ≡ sent a b steps
     pub second-half : noMoveOpen s ≡ true → SecondList (readings named n fresh log 0)
+    pub numbers : (a b : Rank) → a .0 < ranks → b .0 < ranks → Numbers (accepted fresh (readings named n fresh log 0)) s a b
 
   -- They hold of what a run leaves.
   run-ordered : (n : ℕ) (log : List ℕ) (s : State) → runLog named n fresh log 0 .state ≡ s → Ordered n log s
@@ -66,6 +70,7 @@ module _ (named : Naming) where
       record {
         first-half = λ a b ha hb. rw leave at (ordering .first-half steps a b ha hb);
         second-half = λ h. ordering .second-half steps (rw leave h);
+        numbers = λ a b ha hb. rw leave at (numbered steps a b ha hb);
       }
 
   -- They hold of what so many whole records of a log leave.
