@@ -5,6 +5,7 @@ use crate::number::numbers_in;
 use crate::part::link_after;
 use crate::part::message;
 use crate::part::process_after;
+use crate::part::running_number;
 use crate::part::vmid;
 use crate::word::Word;
 use crate::word::word_of;
@@ -82,14 +83,54 @@ fn appended(transit: Transit, m: Message) -> Transit {
     next
 }
 
-fn with_messages(broker: Broker, count: u64, m: Message) -> Broker {
-    let mut transit = broker.transit;
-    for _ in 0..count {
-        transit = appended(transit, m);
+fn with_count(transit: Transit, a: u64, b: u64, sent: u64) -> Transit {
+    let mut next = transit;
+    let at = cell(a, b);
+    next.sent[at] = running_number(sent);
+    next
+}
+
+// The number of the next message of a pair that has sent so many.
+fn number_after(sent: u32) -> u64 {
+    sent as u64 + 1
+}
+
+// One more message is unread, with the next number of its pair, which has then sent one more. For a rank above 15 the number is 1, and
+// nothing is counted.
+fn after_send(transit: Transit, a: u64, b: u64, at: u64, value: u64) -> Transit {
+    if (a < RANKS as u64) & (b < RANKS as u64) {
+        let pair = cell(a, b);
+        let number = number_after(transit.sent[pair]);
+        return appended(
+            with_count(transit, a, b, number),
+            message(a, b, at, value, number),
+        );
     }
+    appended(transit, message(a, b, at, value, 1))
+}
+
+fn with_transit(broker: Broker, transit: Transit) -> Broker {
     let mut next = broker;
     next.transit = transit;
     next
+}
+
+fn with_messages(broker: Broker, count: u64, a: u64, b: u64, at: u64, value: u64) -> Broker {
+    let mut transit = broker.transit;
+    for _ in 0..count {
+        transit = after_send(transit, a, b, at, value);
+    }
+    with_transit(broker, transit)
+}
+
+fn with_message(broker: Broker, m: Message) -> Broker {
+    let transit = broker.transit;
+    with_transit(broker, appended(transit, m))
+}
+
+fn with_sent(broker: Broker, a: u64, b: u64, sent: u64) -> Broker {
+    let transit = broker.transit;
+    with_transit(broker, with_count(transit, a, b, sent))
 }
 
 // A line that is none of the list's is printed, so that the output differs.
@@ -109,8 +150,10 @@ pub(crate) fn changed(broker: Broker, line: &[u8]) -> Broker {
         Word::Table => with_entry(broker, cell(n[0], n[1]), vmid(n[2], n[3])),
         Word::Tables => with_entries(broker, n[0], vmid(n[1], n[2])),
         Word::Drawn => with_drawn(broker, n[0], n[1]),
-        Word::Message => with_messages(broker, 1, message(n[0], n[1], n[2], n[3])),
-        Word::Messages => with_messages(broker, n[0], message(n[1], n[2], n[3], n[4])),
+        Word::Message => with_messages(broker, 1, n[0], n[1], n[2], n[3]),
+        Word::Messages => with_messages(broker, n[0], n[1], n[2], n[3], n[4]),
+        Word::Numbered => with_message(broker, message(n[0], n[1], n[2], n[3], n[4])),
+        Word::Sent => with_sent(broker, n[0], n[1], n[2]),
         Word::Remark => broker,
         _ => {
             complain(line);

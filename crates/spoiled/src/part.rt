@@ -76,11 +76,16 @@ fn place(n: u64) -> Place {
     }
 }
 
-pub(crate) fn message(sender: u64, receiver: u64, at: u64, value: u64) -> Message {
+pub(crate) fn running_number(n: u64) -> u32 {
+    (n % 4294967296) as u32
+}
+
+pub(crate) fn message(sender: u64, receiver: u64, at: u64, value: u64, sequence: u64) -> Message {
     Message {
         sender: rank(sender),
         receiver: rank(receiver),
         place: place(at),
         value: (value % 4294967296) as u32,
+        sequence: running_number(sequence),
     }
 }

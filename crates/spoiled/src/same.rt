@@ -86,6 +86,7 @@ fn same_message(m: Message, n: Message) -> bool {
     m.sender.0 == n.sender.0
         && m.receiver.0 == n.receiver.0
         && m.value == n.value
+        && m.sequence == n.sequence
         && p.number() == q.number()
 }
 
@@ -131,11 +132,17 @@ fn same_drawn(a: Broker, b: Broker) -> bool {
     true
 }
 
-// All slots are compared, the unused ones too.
-fn same_transit(a: Transit, b: Transit) -> bool {
-    if a.count != b.count {
-        return false;
+fn same_sent(a: Transit, b: Transit) -> bool {
+    for i in 0..CELLS {
+        if a.sent[i] != b.sent[i] {
+            return false;
+        }
     }
+    true
+}
+
+// All slots are compared, the unused ones too.
+fn same_messages(a: Transit, b: Transit) -> bool {
     for i in 0..Transit::LIMIT {
         let m = a.messages[i];
         let n = b.messages[i];
@@ -144,6 +151,10 @@ fn same_transit(a: Transit, b: Transit) -> bool {
         }
     }
     true
+}
+
+fn same_transit(a: Transit, b: Transit) -> bool {
+    a.count == b.count && same_messages(a, b) && same_sent(a, b)
 }
 
 pub(crate) fn same(a: Broker, b: Broker) -> bool {

@@ -15,6 +15,8 @@ pub enum Word {
     Marked,
     Message,
     Messages,
+    Numbered,
+    Sent,
     Sound,
     Unsound,
     // An empty line, and one that only the reader reads.
@@ -23,8 +25,8 @@ pub enum Word {
     Unknown,
 }
 
-// The words of a list, eight in each half of their letters.
-const WORDS: usize = 16;
+// The words of a list, nine in each half of their letters.
+const WORDS: usize = 18;
 
 // The byte at a position, and a space past the end.
 fn byte_at(text: &[u8], at: usize) -> u8 {
@@ -33,10 +35,12 @@ fn byte_at(text: &[u8], at: usize) -> u8 {
 
 // The letter of a word at a position. Each word takes nine bytes here, with the space that ends it.
 fn letter_of(number: usize, at: usize) -> u8 {
-    let first = b"fresh    running  moving   ended    drawn    table    tables   call     ";
-    let second = b"plain    notice   unheeded marked   message  messages sound    unsound  ";
-    let within = 9 * (number % 8) + at % 9;
-    if number < 8 {
+    let first =
+        b"fresh    running  moving   ended    drawn    table    tables   call     plain    ";
+    let second =
+        b"notice   unheeded marked   message  messages numbered sent     sound    unsound  ";
+    let within = 9 * (number % 9) + at % 9;
+    if number < 9 {
         byte_at(first, within)
     } else {
         byte_at(second, within)
@@ -90,8 +94,10 @@ pub(crate) fn word_of(text: &[u8]) -> Word {
         11 => Word::Marked,
         12 => Word::Message,
         13 => Word::Messages,
-        14 => Word::Sound,
-        15 => Word::Unsound,
+        14 => Word::Numbered,
+        15 => Word::Sent,
+        16 => Word::Sound,
+        17 => Word::Unsound,
         _ => Word::Unknown,
     }
 }

@@ -8,7 +8,22 @@ use Rattle.broker.specs.Sound.{sound}
 use Rattle.broker.specs.State.{State}
 use Rattle.worked.specs.Unsound.{messages-unsound}
 use Rattle.worked.specs.Whole.{everything}
-use Rattle.worked.specs.Words.{changed, fresh, running, moving, drawn, tables, plain, notice, unheeded, marked, message, messages}
+use Rattle.worked.specs.Words.{
+  changed,
+  fresh,
+  running,
+  moving,
+  drawn,
+  tables,
+  plain,
+  notice,
+  unheeded,
+  marked,
+  message,
+  messages,
+  numbered,
+  sent,
+}
 
 -- "Ranks .. are in range"
 abbrev pub sender-sixteen : State
@@ -387,3 +402,302 @@ place-falls-back-between-the-last-ranks =
 pub place-falls-back-between-the-last-ranks-is-unsound : sound place-falls-back-between-the-last-ranks ≡ false
 unfolding openedMessages
 place-falls-back-between-the-last-ranks-is-unsound = messages-unsound place-falls-back-between-the-last-ranks refl
+
+-- "Sound pairs have unread numbers rising within 1 to the count sent." (paper 02, change 4)
+abbrev pub numbers-with-gaps : State
+numbers-with-gaps = changed everything (sent 3 5 20 ∷ numbered 3 5 2 60 4 ∷ numbered 3 5 2 61 9 ∷ numbered 3 5 2 62 10 ∷ [])
+
+pub numbers-with-gaps-is-sound : sound numbers-with-gaps ≡ true
+unfolding openedSound
+numbers-with-gaps-is-sound = refl
+
+-- "Sound pairs have unread numbers rising within 1 to the count sent." (paper 02, change 4)
+abbrev pub numbers-up-to-the-count-sent : State
+numbers-up-to-the-count-sent = changed everything (sent 3 5 9 ∷ numbered 3 5 2 60 8 ∷ numbered 3 5 2 61 9 ∷ [])
+
+pub numbers-up-to-the-count-sent-is-sound : sound numbers-up-to-the-count-sent ≡ true
+unfolding openedSound
+numbers-up-to-the-count-sent-is-sound = refl
+
+-- "Sound pairs have unread numbers rising within 1 to the count sent." (paper 02, change 4)
+abbrev pub number-one-with-one-sent : State
+number-one-with-one-sent = changed everything (sent 3 5 1 ∷ numbered 3 5 2 60 1 ∷ [])
+
+pub number-one-with-one-sent-is-sound : sound number-one-with-one-sent ≡ true
+unfolding openedSound
+number-one-with-one-sent-is-sound = refl
+
+-- "Sound pairs have unread numbers rising within 1 to the count sent." (paper 02, change 4)
+abbrev pub highest-numbers : State
+highest-numbers =
+    changed everything
+    (sent 3 5 4294967295 ∷ numbered 3 5 2 60 1 ∷ numbered 3 5 2 61 4294967294 ∷ numbered 3 5 2 62 4294967295 ∷ [])
+
+pub highest-numbers-is-sound : sound highest-numbers ≡ true
+unfolding openedSound
+highest-numbers-is-sound = refl
+
+-- "Sound pairs have unread numbers rising within 1 to the count sent." (paper 02, change 4)
+abbrev pub counts-sent-with-nothing-unread : State
+counts-sent-with-nothing-unread = changed everything (sent 3 5 4294967295 ∷ sent 0 5 1 ∷ [])
+
+pub counts-sent-with-nothing-unread-is-sound : sound counts-sent-with-nothing-unread ≡ true
+unfolding openedSound
+counts-sent-with-nothing-unread-is-sound = refl
+
+-- "Sound pairs have unread numbers rising within 1 to the count sent." (paper 02, change 4)
+abbrev pub counts-sent-above-the-unread : State
+counts-sent-above-the-unread = changed everything (sent 0 1 4294967295 ∷ sent 0 2 3 ∷ [])
+
+pub counts-sent-above-the-unread-is-sound : sound counts-sent-above-the-unread ≡ true
+unfolding openedSound
+counts-sent-above-the-unread-is-sound = refl
+
+-- "Sound pairs have unread numbers rising within 1 to the count sent." (paper 02, change 4)
+abbrev pub same-numbers-in-both-directions : State
+same-numbers-in-both-directions = changed everything (sent 2 0 2 ∷ numbered 2 0 2 60 1 ∷ numbered 2 0 3 61 2 ∷ [])
+
+pub same-numbers-in-both-directions-is-sound : sound same-numbers-in-both-directions ≡ true
+unfolding openedSound
+same-numbers-in-both-directions-is-sound = refl
+
+-- "Sound pairs have unread numbers rising within 1 to the count sent." (paper 02, change 4)
+abbrev pub numbers-fall-between-pairs : State
+numbers-fall-between-pairs =
+    changed everything
+    (sent 3 5 9 ∷ sent 0 5 9 ∷ numbered 3 5 2 60 8 ∷ numbered 0 5 2 61 1 ∷ numbered 3 5 2 62 9 ∷ numbered 0 5 2 63 2 ∷ [])
+
+pub numbers-fall-between-pairs-is-sound : sound numbers-fall-between-pairs ≡ true
+unfolding openedSound
+numbers-fall-between-pairs-is-sound = refl
+
+-- "Sound pairs have unread numbers rising within 1 to the count sent." (paper 02, change 4)
+abbrev pub numbers-rise-from-place-to-place : State
+numbers-rise-from-place-to-place =
+    changed everything
+    (sent 2 1 9 ∷ numbered 2 1 3 60 5 ∷ marked 6 5 ∷ plain 5 6 ∷ plain 6 5 ∷ sent 5 6 9 ∷ numbered 5 6 0 61 2 ∷ numbered 5 6 1 62 3 ∷
+    numbered 5 6 2 63 7 ∷ numbered 5 6 3 64 9 ∷ [])
+
+pub numbers-rise-from-place-to-place-is-sound : sound numbers-rise-from-place-to-place ≡ true
+unfolding openedSound
+numbers-rise-from-place-to-place-is-sound = refl
+
+-- "Sound pairs have unread numbers rising within 1 to the count sent." (paper 02, change 4)
+abbrev pub counts-sent-of-unstarted-ranks : State
+counts-sent-of-unstarted-ranks = changed everything (sent 14 0 7 ∷ sent 0 14 7 ∷ sent 15 14 4294967295 ∷ [])
+
+pub counts-sent-of-unstarted-ranks-is-sound : sound counts-sent-of-unstarted-ranks ≡ true
+unfolding openedSound
+counts-sent-of-unstarted-ranks-is-sound = refl
+
+-- "Sound pairs have unread numbers rising within 1 to the count sent." (paper 02, change 4)
+abbrev pub counts-sent-of-ended-ranks : State
+counts-sent-of-ended-ranks = changed everything (sent 4 0 7 ∷ sent 0 4 7 ∷ [])
+
+pub counts-sent-of-ended-ranks-is-sound : sound counts-sent-of-ended-ranks ≡ true
+unfolding openedSound
+counts-sent-of-ended-ranks-is-sound = refl
+
+-- "Sound pairs have unread numbers rising within 1 to the count sent." (paper 02, change 4)
+abbrev pub counts-sent-to-itself : State
+counts-sent-to-itself = changed everything (sent 3 3 7 ∷ sent 15 15 4294967295 ∷ [])
+
+pub counts-sent-to-itself-is-sound : sound counts-sent-to-itself ≡ true
+unfolding openedSound
+counts-sent-to-itself-is-sound = refl
+
+-- "Sound pairs have unread numbers rising within 1 to the count sent." (paper 02, change 4)
+abbrev pub numbers-between-the-last-ranks : State
+numbers-between-the-last-ranks =
+    changed everything
+    (drawn 7 2 ∷ running 14 7 1 ∷ tables 14 7 1 ∷ running 15 7 2 ∷ tables 15 7 2 ∷ sent 14 15 9 ∷ sent 15 14 9 ∷ numbered 14 15 2 60 9 ∷
+    numbered 15 14 2 61 9 ∷ [])
+
+pub numbers-between-the-last-ranks-is-sound : sound numbers-between-the-last-ranks ≡ true
+unfolding openedSound
+numbers-between-the-last-ranks-is-sound = refl
+
+-- "Sound pairs have unread numbers rising within 1 to the count sent." (paper 02, change 4)
+abbrev pub number-repeated : State
+number-repeated = changed everything (sent 3 5 9 ∷ numbered 3 5 2 60 4 ∷ numbered 3 5 2 61 4 ∷ [])
+
+pub number-repeated-is-unsound : sound number-repeated ≡ false
+unfolding openedMessages
+number-repeated-is-unsound = messages-unsound number-repeated refl
+
+-- "Sound pairs have unread numbers rising within 1 to the count sent." (paper 02, change 4)
+abbrev pub number-falls : State
+number-falls = changed everything (sent 3 5 9 ∷ numbered 3 5 2 60 4 ∷ numbered 3 5 2 61 3 ∷ [])
+
+pub number-falls-is-unsound : sound number-falls ≡ false
+unfolding openedMessages
+number-falls-is-unsound = messages-unsound number-falls refl
+
+-- "Sound pairs have unread numbers rising within 1 to the count sent." (paper 02, change 4)
+abbrev pub number-falls-below-the-one-before : State
+number-falls-below-the-one-before = changed everything (sent 3 5 9 ∷ numbered 3 5 2 60 4 ∷ numbered 3 5 2 61 6 ∷ numbered 3 5 2 62 5 ∷ [])
+
+pub number-falls-below-the-one-before-is-unsound : sound number-falls-below-the-one-before ≡ false
+unfolding openedMessages
+number-falls-below-the-one-before-is-unsound = messages-unsound number-falls-below-the-one-before refl
+
+-- "Sound pairs have unread numbers rising within 1 to the count sent." (paper 02, change 4)
+abbrev pub number-falls-and-rises : State
+number-falls-and-rises = changed everything (sent 3 5 9 ∷ numbered 3 5 2 60 4 ∷ numbered 3 5 2 61 3 ∷ numbered 3 5 2 62 5 ∷ [])
+
+pub number-falls-and-rises-is-unsound : sound number-falls-and-rises ≡ false
+unfolding openedMessages
+number-falls-and-rises-is-unsound = messages-unsound number-falls-and-rises refl
+
+-- "Sound pairs have unread numbers rising within 1 to the count sent." (paper 02, change 4)
+abbrev pub number-falls-from-the-highest : State
+number-falls-from-the-highest = changed everything (sent 3 5 4294967295 ∷ numbered 3 5 2 60 4294967295 ∷ numbered 3 5 2 61 1 ∷ [])
+
+pub number-falls-from-the-highest-is-unsound : sound number-falls-from-the-highest ≡ false
+unfolding openedMessages
+number-falls-from-the-highest-is-unsound = messages-unsound number-falls-from-the-highest refl
+
+-- "Sound pairs have unread numbers rising within 1 to the count sent." (paper 02, change 4)
+abbrev pub number-repeated-at-another-place : State
+number-repeated-at-another-place = changed everything (marked 6 5 ∷ sent 5 6 9 ∷ numbered 5 6 0 60 4 ∷ numbered 5 6 1 61 4 ∷ [])
+
+pub number-repeated-at-another-place-is-unsound : sound number-repeated-at-another-place ≡ false
+unfolding openedMessages
+number-repeated-at-another-place-is-unsound = messages-unsound number-repeated-at-another-place refl
+
+-- "Sound pairs have unread numbers rising within 1 to the count sent." (paper 02, change 4)
+abbrev pub number-falls-on-the-lane-to-the-mover : State
+number-falls-on-the-lane-to-the-mover = changed everything (sent 0 1 9 ∷ numbered 0 1 1 60 2 ∷ [])
+
+pub number-falls-on-the-lane-to-the-mover-is-unsound : sound number-falls-on-the-lane-to-the-mover ≡ false
+unfolding openedMessages
+number-falls-on-the-lane-to-the-mover-is-unsound = messages-unsound number-falls-on-the-lane-to-the-mover refl
+
+-- "Sound pairs have unread numbers rising within 1 to the count sent." (paper 02, change 4)
+abbrev pub number-rises-over-another-pair-alone : State
+number-rises-over-another-pair-alone =
+    changed everything
+    (sent 3 5 9 ∷ sent 0 5 9 ∷ numbered 3 5 2 60 5 ∷ numbered 0 5 2 61 1 ∷ numbered 3 5 2 62 4 ∷ [])
+
+pub number-rises-over-another-pair-alone-is-unsound : sound number-rises-over-another-pair-alone ≡ false
+unfolding openedMessages
+number-rises-over-another-pair-alone-is-unsound = messages-unsound number-rises-over-another-pair-alone refl
+
+-- "Sound pairs have unread numbers rising within 1 to the count sent." (paper 02, change 4)
+abbrev pub number-rises-over-the-other-direction-alone : State
+number-rises-over-the-other-direction-alone =
+    changed everything
+    (sent 3 5 9 ∷ numbered 3 5 2 60 5 ∷ message 5 3 2 61 ∷ numbered 3 5 2 62 4 ∷ [])
+
+pub number-rises-over-the-other-direction-alone-is-unsound : sound number-rises-over-the-other-direction-alone ≡ false
+unfolding openedMessages
+number-rises-over-the-other-direction-alone-is-unsound = messages-unsound number-rises-over-the-other-direction-alone refl
+
+-- "Sound pairs have unread numbers rising within 1 to the count sent." (paper 02, change 4)
+abbrev pub number-above-the-count-sent : State
+number-above-the-count-sent = changed everything (sent 3 5 4 ∷ numbered 3 5 2 60 5 ∷ [])
+
+pub number-above-the-count-sent-is-unsound : sound number-above-the-count-sent ≡ false
+unfolding openedMessages
+number-above-the-count-sent-is-unsound = messages-unsound number-above-the-count-sent refl
+
+-- "Sound pairs have unread numbers rising within 1 to the count sent." (paper 02, change 4)
+abbrev pub last-number-above-the-count-sent : State
+last-number-above-the-count-sent = changed everything (sent 3 5 4 ∷ numbered 3 5 2 60 4 ∷ numbered 3 5 2 61 5 ∷ [])
+
+pub last-number-above-the-count-sent-is-unsound : sound last-number-above-the-count-sent ≡ false
+unfolding openedMessages
+last-number-above-the-count-sent-is-unsound = messages-unsound last-number-above-the-count-sent refl
+
+-- "Sound pairs have unread numbers rising within 1 to the count sent." (paper 02, change 4)
+abbrev pub number-one-with-nothing-sent : State
+number-one-with-nothing-sent = changed everything (numbered 3 5 2 60 1 ∷ [])
+
+pub number-one-with-nothing-sent-is-unsound : sound number-one-with-nothing-sent ≡ false
+unfolding openedMessages
+number-one-with-nothing-sent-is-unsound = messages-unsound number-one-with-nothing-sent refl
+
+-- "Sound pairs have unread numbers rising within 1 to the count sent." (paper 02, change 4)
+abbrev pub highest-number-with-one-less-sent : State
+highest-number-with-one-less-sent = changed everything (sent 3 5 4294967294 ∷ numbered 3 5 2 60 4294967295 ∷ [])
+
+pub highest-number-with-one-less-sent-is-unsound : sound highest-number-with-one-less-sent ≡ false
+unfolding openedMessages
+highest-number-with-one-less-sent-is-unsound = messages-unsound highest-number-with-one-less-sent refl
+
+-- "Sound pairs have unread numbers rising within 1 to the count sent." (paper 02, change 4)
+abbrev pub number-zero : State
+number-zero = changed everything (sent 3 5 4 ∷ numbered 3 5 2 60 0 ∷ [])
+
+pub number-zero-is-unsound : sound number-zero ≡ false
+unfolding openedMessages
+number-zero-is-unsound = messages-unsound number-zero refl
+
+-- "Sound pairs have unread numbers rising within 1 to the count sent." (paper 02, change 4)
+abbrev pub number-zero-with-nothing-sent : State
+number-zero-with-nothing-sent = changed everything (numbered 3 5 2 60 0 ∷ [])
+
+pub number-zero-with-nothing-sent-is-unsound : sound number-zero-with-nothing-sent ≡ false
+unfolding openedMessages
+number-zero-with-nothing-sent-is-unsound = messages-unsound number-zero-with-nothing-sent refl
+
+-- "Sound pairs have unread numbers rising within 1 to the count sent." (paper 02, change 4)
+abbrev pub number-zero-with-all-sent : State
+number-zero-with-all-sent = changed everything (sent 3 5 4294967295 ∷ numbered 3 5 2 60 0 ∷ [])
+
+pub number-zero-with-all-sent-is-unsound : sound number-zero-with-all-sent ≡ false
+unfolding openedMessages
+number-zero-with-all-sent-is-unsound = messages-unsound number-zero-with-all-sent refl
+
+-- "Sound pairs have unread numbers rising within 1 to the count sent." (paper 02, change 4)
+abbrev pub count-sent-below-the-unread : State
+count-sent-below-the-unread = changed everything (message 3 5 2 60 ∷ message 3 5 2 61 ∷ sent 3 5 1 ∷ [])
+
+pub count-sent-below-the-unread-is-unsound : sound count-sent-below-the-unread ≡ false
+unfolding openedMessages
+count-sent-below-the-unread-is-unsound = messages-unsound count-sent-below-the-unread refl
+
+-- "Sound pairs have unread numbers rising within 1 to the count sent." (paper 02, change 4)
+abbrev pub count-sent-forgotten : State
+count-sent-forgotten = changed everything (sent 0 1 0 ∷ [])
+
+pub count-sent-forgotten-is-unsound : sound count-sent-forgotten ≡ false
+unfolding openedMessages
+count-sent-forgotten-is-unsound = messages-unsound count-sent-forgotten refl
+
+-- "Sound pairs have unread numbers rising within 1 to the count sent." (paper 02, change 4)
+abbrev pub number-within-the-count-of-the-other-direction : State
+number-within-the-count-of-the-other-direction = changed everything (sent 3 5 1 ∷ sent 5 3 9 ∷ numbered 3 5 2 60 2 ∷ [])
+
+pub number-within-the-count-of-the-other-direction-is-unsound : sound number-within-the-count-of-the-other-direction ≡ false
+unfolding openedMessages
+number-within-the-count-of-the-other-direction-is-unsound = messages-unsound number-within-the-count-of-the-other-direction refl
+
+-- "Sound pairs have unread numbers rising within 1 to the count sent." (paper 02, change 4)
+abbrev pub number-within-the-count-of-another-receiver : State
+number-within-the-count-of-another-receiver = changed everything (sent 3 5 1 ∷ sent 3 0 9 ∷ numbered 3 5 2 60 2 ∷ [])
+
+pub number-within-the-count-of-another-receiver-is-unsound : sound number-within-the-count-of-another-receiver ≡ false
+unfolding openedMessages
+number-within-the-count-of-another-receiver-is-unsound = messages-unsound number-within-the-count-of-another-receiver refl
+
+-- "Sound pairs have unread numbers rising within 1 to the count sent." (paper 02, change 4)
+abbrev pub number-repeated-between-the-last-ranks : State
+number-repeated-between-the-last-ranks =
+    changed everything
+    (drawn 7 2 ∷ running 14 7 1 ∷ tables 14 7 1 ∷ running 15 7 2 ∷ tables 15 7 2 ∷ sent 14 15 9 ∷ numbered 14 15 2 60 4 ∷
+    numbered 14 15 2 61 4 ∷ [])
+
+pub number-repeated-between-the-last-ranks-is-unsound : sound number-repeated-between-the-last-ranks ≡ false
+unfolding openedMessages
+number-repeated-between-the-last-ranks-is-unsound = messages-unsound number-repeated-between-the-last-ranks refl
+
+-- "Sound pairs have unread numbers rising within 1 to the count sent." (paper 02, change 4)
+abbrev pub number-above-the-count-sent-between-the-last-ranks : State
+number-above-the-count-sent-between-the-last-ranks =
+    changed everything
+    (drawn 7 2 ∷ running 14 7 1 ∷ tables 14 7 1 ∷ running 15 7 2 ∷ tables 15 7 2 ∷ sent 15 14 4 ∷ sent 14 15 9 ∷ numbered 15 14 2 60 5 ∷ [])
+
+pub number-above-the-count-sent-between-the-last-ranks-is-unsound : sound number-above-the-count-sent-between-the-last-ranks ≡ false
+unfolding openedMessages
+number-above-the-count-sent-between-the-last-ranks-is-unsound = messages-unsound number-above-the-count-sent-between-the-last-ranks refl

@@ -1,13 +1,16 @@
--- The words of the list of states, each a change of a state. Paper 01, "Names and places".
+-- The words of the list of states, each a change of a state. Paper 01, "Names and places"; paper 02, change 4.
 -- Assumes nothing.
+use mathlib.Core.Bool.{cond, _&&_}
 use mathlib.Core.List.{List, [], _∷_, _++_}
-use Prim.Native.Nat.{ℕ}
-use lib.ListN.{getD, set, replicate}
+use Prim.Native.Nat.{ℕ, _+_}
+use lib.ListN.{getD, set}
 use Rattle.base.specs.Below.{eachBelow}
-use Rattle.transit.specs.Message.{ranks, rank}
+use Rattle.transit.specs.Message.{ranks, rank, isRank, pairOf}
 use Rattle.transit.specs.Unread.{counted}
+use Rattle.transit.specs.declared.Message.{Message}
 use Rattle.transit.specs.declared.Place.{Place}
 use Rattle.transit.specs.declared.Place.the-variants.{SourceList, SourceChannel, EndList, Channel}
+use Rattle.broker.specs.Messages.{sentBetween}
 use Rattle.broker.specs.Names.{vmid}
 use Rattle.broker.specs.State as State
 use Rattle.broker.specs.State.{State, cell, connect, await, withStatus, withRequest, withLocations, withLinks, withDrawn, withUnread}
@@ -72,12 +75,23 @@ marked a b s = withLinks (await (rank a) (rank b) Marked (s .links)) s
 abbrev pub placeOf : ℕ → Place
 placeOf p = getD (SourceList ∷ SourceChannel ∷ EndList ∷ []) p Channel
 
--- the last unread messages, n of one kind
-abbrev pub messages : ℕ → ℕ → ℕ → ℕ → ℕ → Change
-messages n a b p v s =
-    withUnread
-    (counted (s .unread .messages ++ replicate n (record { sender = rank a; receiver = rank b; value = v; place = placeOf p })))
-    s
+-- one more message is unread, with a running number; the count sent stays
+abbrev pub numbered : ℕ → ℕ → ℕ → ℕ → ℕ → Change
+numbered a b p v k s =
+    let message : Message = record { sender = rank a; receiver = rank b; value = v; sequence = k; place = placeOf p } in
+    withUnread (counted (s .unread .sent) (s .unread .messages ++ message ∷ [])) s
 
+-- a has sent n messages to b
+abbrev pub sent : ℕ → ℕ → ℕ → Change
+sent a b n s = withUnread (counted (set (s .unread .sent) (pairOf (rank a) (rank b)) n) (s .unread .messages)) s
+
+-- one more message is unread, with the next number of its pair, which has then sent one more; for a rank above 15 the number is 1, and
+-- nothing is counted
 abbrev pub message : ℕ → ℕ → ℕ → ℕ → Change
-message = messages 1
+message a b p v s =
+    let k = sentBetween (rank a) (rank b) s + 1 in
+    cond (isRank (rank a) && isRank (rank b)) (numbered a b p v k (sent a b k s)) (numbered a b p v 1 s)
+
+-- n more such messages
+abbrev pub messages : ℕ → ℕ → ℕ → ℕ → ℕ → Change
+messages n a b p v = eachBelow n (λ _. message a b p v)

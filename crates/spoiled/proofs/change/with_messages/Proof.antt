@@ -5,13 +5,13 @@ use Rattle.spoiled.proofs.change.with_messages.Statement.{statement}
 use Rattle.spoiled.proofs.change.with_messages.Tie as tie
 
 abbrev Inv-loop : tie.InvT-loop
-Inv-loop broker count m transit₀ counter₀ transit counter = counter ≤ count
+Inv-loop broker count a b at value transit₀ counter₀ transit counter = counter ≤ count
 
 abbrev μ-loop : tie.MeasureT-loop
-μ-loop broker count m transit₀ counter₀ transit counter = count - counter
+μ-loop broker count a b at value transit₀ counter₀ transit counter = count - counter
 
 pub with-messages-spec : {M : Type 1} → statement M
 with-messages-spec =
     tie.close
     (tie.spec Inv-loop μ-loop (λ c. search needs) (λ c. search needs) (λ c. search needs) (λ c. search needs) (λ c. search needs)
-    (λ c. search needs))
+    (λ c. search needs) (λ c. search needs))
