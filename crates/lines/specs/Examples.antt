@@ -12,18 +12,18 @@ use Rattle.broker.specs.declared.answer.Answer.the-variants.{Accepted, Refused}
 use Rattle.broker.specs.declared.answer.Refusal.the-variants.{UnknownKind}
 use Rattle.lines.specs.Lines.{recordLine, pairLine, pairLines}
 
--- a message from a to b at a place
-abbrev unread : ℕ → ℕ → Place → Message
-unread a b p = record { sender = rank a; receiver = rank b; value = 7; place = p }
+-- a message from a to b with a running number, at a place
+abbrev unread : ℕ → ℕ → ℕ → Place → Message
+unread a b n p = record { sender = rank a; receiver = rank b; value = 7; sequence = n; place = p }
 
 -- in order of sending
 abbrev messages : List Message
 messages =
-    unread 1 0 Channel ∷
-    unread 0 12 EndList ∷
-    unread 0 1 SourceList ∷
-    unread 0 1 SourceChannel ∷
-    unread 0 1 SourceChannel ∷ []
+    unread 1 0 1 Channel ∷
+    unread 0 12 1 EndList ∷
+    unread 0 1 1 SourceList ∷
+    unread 0 1 2 SourceChannel ∷
+    unread 0 1 3 SourceChannel ∷ []
 
 -- "ascending by sender and receiver"
 pub pairs-ascend :

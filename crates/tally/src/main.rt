@@ -5,8 +5,8 @@ use libc::STDIN_FILENO;
 use libc::STDOUT_FILENO;
 use steps::step;
 
-// The numbers of an answer: 0 where the step is accepted, and the refusals up to 25.
-const NUMBERS: usize = 26;
+// The numbers of an answer: 0 where the step is accepted, and the refusals up to 28.
+const NUMBERS: usize = 29;
 
 // One more, up to the largest number that fits.
 fn one_more(count: u32) -> u32 {
@@ -23,7 +23,7 @@ fn tell(number: usize, count: u32) {
     }
 }
 
-// The log is read as far as the buffer goes. No number is above 25: the test in the loop spares the proof of that.
+// The log is read as far as the buffer goes. No number is above 28: the test in the loop spares the proof of that.
 fn main() {
     let mut log = io::large_buffer();
     let end = io::read_full(STDIN_FILENO, &mut log);

@@ -14,7 +14,7 @@ abbrev Inv-loop2 : tie.InvT-loop2
 Inv-loop2 end counts at number₀ number = Unit {0}
 
 abbrev μ-loop2 : tie.MeasureT-loop2
-μ-loop2 end counts at number₀ number = 26 - number
+μ-loop2 end counts at number₀ number = 29 - number
 
 pub main-spec : {M : Type 1} → statement M
 main-spec =
