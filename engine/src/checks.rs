@@ -1,7 +1,7 @@
-//! Checks 4 to 25 of paper 01, "Where each step is checked", without 18: paper
-//! 02, Change 2, "Number 18 is given no more". For each kind the checks that
-//! name it stand by ascending number, so that "the lowest number that applies
-//! is given".
+//! The checks from 4 on: those of paper 01, "Where each step is checked",
+//! without 18 (paper 02, Change 2, "Number 18 is given no more"), and 28, which
+//! Change 4 has "tested after 25". For each kind the checks that name it stand
+//! by ascending number, so that "the lowest number that applies is given".
 
 use crate::desk::Desk;
 use crate::mail::Mail;
@@ -47,7 +47,9 @@ impl Desk {
                 self.two_started(a, b)?;
                 self.first_running(a)?;
                 refuse_if(self.line(a, b) == Line::None, Refusal::NoLine)?;
-                refuse_if(self.mail().unread() >= Mail::LIMIT, Refusal::DeskFull)
+                refuse_if(self.mail().unread() >= Mail::LIMIT, Refusal::DeskFull)?;
+                let exhausted = self.mail().sent(a, b) == Mail::MOST_SENT;
+                refuse_if(exhausted, Refusal::SendsExhausted)
             }
             Step::Take { b, a } => {
                 self.two_started(b, a)?;

@@ -2,7 +2,7 @@
 //! as sets of ranks, messages as queues of pairs, all updated in place. Only
 //! sound states have a desk.
 
-use crate::mail::{Mail, Place};
+use crate::mail::{Content, Mail, Place};
 use crate::names::{Host, Rank, Vmid};
 use crate::rank_set::RankSet;
 use crate::snapshot::{Await, Call, Line, Message, Snapshot, Standing};
@@ -62,12 +62,16 @@ impl Desk {
                     Await::Unheeded => desk.unheeded[holder.index()].insert(other),
                     Await::Marked => desk.marked[holder.index()].insert(other),
                 }
+                let sent = state.sent[holder.index()][other.index()];
+                desk.mail.set_sent(holder, other, sent);
             }
         }
         for message in &state.messages {
             let place = Place::ALL[usize::from(message.place)];
+            let (value, number) = (message.value, message.number);
+            let content = Content { value, number };
             desk.mail
-                .append(message.sender, message.receiver, message.value, place);
+                .put_back(message.sender, message.receiver, content, place);
         }
         Some(desk)
     }
@@ -84,13 +88,16 @@ impl Desk {
             for other in Rank::all() {
                 state.lines[holder.index()][other.index()] = self.line(holder, other);
                 state.awaits[holder.index()][other.index()] = self.awaits(holder, other);
+                state.sent[holder.index()][other.index()] = self.mail.sent(holder, other);
                 let unread = self.mail.unread_of_pair(holder, other);
-                state.messages.extend(unread.map(|(value, place)| Message {
+                let messages = unread.map(|(content, place)| Message {
                     sender: holder,
                     receiver: other,
-                    value,
+                    value: content.value,
                     place: place as u8,
-                }));
+                    number: content.number,
+                });
+                state.messages.extend(messages);
             }
         }
         state

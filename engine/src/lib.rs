@@ -28,7 +28,7 @@ mod transitions;
 
 pub use desk::Desk;
 pub use made_up::{made_up, MadeUp, NotMade};
-pub use mail::{Mail, PairCount, Place};
+pub use mail::{Content, Mail, PairCount, Place, RunningNumber};
 pub use names::{Host, Rank, Vmid};
 pub use record::{Kind, Step};
 pub use refusal::{Answer, Refusal, Values};

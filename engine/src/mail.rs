@@ -1,6 +1,7 @@
-//! The unread messages: one queue for each ordered pair, and how many of its
-//! messages are at each place. This is paper 01's "lower part that knows no
-//! step kinds": it keeps pair order and places, and asks nothing about ranks.
+//! The unread messages: one queue for each ordered pair, how many of its
+//! messages are at each place, and how many it has sent. This is paper 01's
+//! "lower part that knows no step kinds": it keeps pair order, places and
+//! running numbers, and asks nothing about ranks.
 
 use crate::names::Rank;
 use crate::rank_set::RankSet;
@@ -13,6 +14,10 @@ use std::collections::VecDeque;
 pub type PairCount = u16;
 
 const _: () = assert!(Mail::LIMIT <= PairCount::MAX as usize);
+
+/// "The number of a message within its ordered pair, from 1 in order of
+/// sending" (paper 02, Change 4); and how many messages a pair has sent.
+pub type RunningNumber = u32;
 
 /// Where an unread message is; its discriminant is the paper's place.
 #[derive(Clone, Copy, Debug, PartialEq, Eq, PartialOrd, Ord)]
@@ -38,20 +43,37 @@ impl Place {
     ];
 }
 
-/// The unread messages of one ordered pair. Within a pair places never fall
-/// along the order of sending, so place order is the order of sending and the
-/// counts say where each message is.
+/// What a message of a pair holds, wherever it is.
+#[derive(Clone, Copy, Debug, PartialEq, Eq)]
+pub struct Content {
+    /// The 32-bit value.
+    pub value: u32,
+    /// "Now kept with the message": those of a pair rise, with or without gaps.
+    pub number: RunningNumber,
+}
+
+/// The unread messages of one ordered pair, and how many it has sent. Within a
+/// pair places never fall along the order of sending, so place order is the
+/// order of sending and the counts say where each message is.
 #[derive(Clone, Debug, Default)]
 struct PairQueue {
-    values: VecDeque<u32>,
+    contents: VecDeque<Content>,
     counts: [PairCount; 4],
+    sent: RunningNumber,
 }
 
 impl PairQueue {
     /// How many messages the pair has. The number fits: no pair has more than
     /// the whole desk, which has at most `Mail::LIMIT`.
     fn unread(&self) -> PairCount {
-        self.values.len() as PairCount
+        self.contents.len() as PairCount
+    }
+
+    /// Adds a message behind all others, at no lower place than theirs.
+    fn push(&mut self, content: Content, place: Place) {
+        debug_assert!(self.counts[place as usize + 1..].iter().all(|&n| n == 0));
+        self.contents.push_back(content);
+        self.counts[place as usize] += 1;
     }
 
     /// Moves all messages at one place to another. Nothing may be at a place
@@ -65,7 +87,7 @@ impl PairQueue {
     }
 }
 
-/// All unread messages of the desk.
+/// All unread messages of the desk, and how many each pair has sent.
 #[derive(Clone, Debug)]
 pub struct Mail {
     /// One queue for each receiver and sender, a receiver's queues together.
@@ -79,7 +101,11 @@ impl Mail {
     /// "At most 1,024 are unread in the whole desk."
     pub const LIMIT: usize = 1_024;
 
-    /// No messages.
+    /// No pair sends more: "28 for a send when the pair has already sent
+    /// 4,294,967,295" (paper 02, Change 4).
+    pub const MOST_SENT: RunningNumber = 4_294_967_295;
+
+    /// No messages, and none sent.
     pub fn empty() -> Mail {
         Mail {
             queues: vec![PairQueue::default(); Rank::COUNT * Rank::COUNT],
@@ -98,12 +124,9 @@ impl Mail {
 
     /// How many bytes all of it takes, with the room that queues keep.
     pub fn bytes(&self) -> usize {
-        let values: usize = self
-            .queues
-            .iter()
-            .map(|queue| queue.values.capacity())
-            .sum();
-        size_of::<Mail>() + self.queues.len() * size_of::<PairQueue>() + values * size_of::<u32>()
+        let room = |queue: &PairQueue| queue.contents.capacity() * size_of::<Content>();
+        let queues = self.queues.len() * size_of::<PairQueue>();
+        size_of::<Mail>() + queues + self.queues.iter().map(room).sum::<usize>()
     }
 
     /// How many messages are unread in the whole desk.
@@ -114,6 +137,12 @@ impl Mail {
     /// How many messages from `sender` to `receiver` are unread.
     pub fn unread_between(&self, sender: Rank, receiver: Rank) -> PairCount {
         self.queue(sender, receiver).unread()
+    }
+
+    /// How many messages `sender` has sent to `receiver`, read or unread: the
+    /// running number of the last.
+    pub fn sent(&self, sender: Rank, receiver: Rank) -> RunningNumber {
+        self.queue(sender, receiver).sent
     }
 
     /// The ranks with a message unread by `receiver`.
@@ -131,33 +160,57 @@ impl Mail {
         &self,
         sender: Rank,
         receiver: Rank,
-    ) -> impl Iterator<Item = (u32, Place)> + '_ {
+    ) -> impl Iterator<Item = (Content, Place)> + '_ {
         let queue = self.queue(sender, receiver);
         let places = Place::ALL.into_iter().flat_map(|place| {
             std::iter::repeat_n(place, usize::from(queue.counts[place as usize]))
         });
-        queue.values.iter().copied().zip(places)
+        queue.contents.iter().copied().zip(places)
     }
 
-    /// Adds a message as the last of its pair. The desk may not be full, and no
-    /// message of the pair may be at a higher place. Gives how many the pair
-    /// then has.
+    /// Adds a message with a value and the pair's next running number as the
+    /// last of its pair. The desk may not be full, the pair may not have sent
+    /// `MOST_SENT`, and no message of it may be at a higher place. Gives how
+    /// many the pair then has.
     pub fn append(&mut self, sender: Rank, receiver: Rank, value: u32, place: Place) -> PairCount {
-        debug_assert!(self.unread < Mail::LIMIT);
-        self.unread += 1;
-        self.waiting[receiver.index()].insert(sender);
+        self.count_in(sender, receiver);
         let queue = self.queue_mut(sender, receiver);
-        debug_assert!(queue.counts[place as usize + 1..].iter().all(|&n| n == 0));
-        queue.values.push_back(value);
-        queue.counts[place as usize] += 1;
+        queue.sent += 1;
+        let number = queue.sent;
+        queue.push(Content { value, number }, place);
         queue.unread()
     }
 
-    /// Takes out the first message of a pair in place order, and gives its
-    /// value and how many the pair then has.
-    pub fn take_first(&mut self, sender: Rank, receiver: Rank) -> Option<(u32, PairCount)> {
+    /// Puts a message of a state that is handed in behind the others of its
+    /// pair, at no lower place than theirs; the count sent stays.
+    pub(crate) fn put_back(
+        &mut self,
+        sender: Rank,
+        receiver: Rank,
+        content: Content,
+        place: Place,
+    ) {
+        self.count_in(sender, receiver);
+        self.queue_mut(sender, receiver).push(content, place);
+    }
+
+    /// Sets how many messages a pair has sent.
+    pub(crate) fn set_sent(&mut self, sender: Rank, receiver: Rank, sent: RunningNumber) {
+        self.queue_mut(sender, receiver).sent = sent;
+    }
+
+    /// Counts a message that comes into the queue of its pair.
+    fn count_in(&mut self, sender: Rank, receiver: Rank) {
+        debug_assert!(self.unread < Mail::LIMIT);
+        self.unread += 1;
+        self.waiting[receiver.index()].insert(sender);
+    }
+
+    /// Takes out the first message of a pair in place order, and gives it and
+    /// how many the pair then has.
+    pub fn take_first(&mut self, sender: Rank, receiver: Rank) -> Option<(Content, PairCount)> {
         let queue = self.queue_mut(sender, receiver);
-        let value = queue.values.pop_front()?;
+        let content = queue.contents.pop_front()?;
         let lowest = queue.counts.iter_mut().find(|count| **count > 0)?;
         *lowest -= 1;
         let left = queue.unread();
@@ -165,7 +218,7 @@ impl Mail {
         if left == 0 {
             self.waiting[receiver.index()].remove(sender);
         }
-        Some((value, left))
+        Some((content, left))
     }
 
     /// Moves all messages of a pair at one place to another with nothing
@@ -175,13 +228,13 @@ impl Mail {
     }
 
     /// Moves the first message of a pair on the lane to the mover into the
-    /// mover's list, and gives its value.
-    pub fn list_first_of_mover_lane(&mut self, sender: Rank, receiver: Rank) -> Option<u32> {
+    /// mover's list, and gives it.
+    pub fn list_first_of_mover_lane(&mut self, sender: Rank, receiver: Rank) -> Option<Content> {
         let queue = self.queue_mut(sender, receiver);
         let [listed, on_lane, ..] = &mut queue.counts;
         *on_lane = on_lane.checked_sub(1)?;
-        let value = queue.values[usize::from(*listed)];
+        let content = queue.contents[usize::from(*listed)];
         *listed += 1;
-        Some(value)
+        Some(content)
     }
 }

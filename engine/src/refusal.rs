@@ -1,6 +1,7 @@
 //! What a step answers: three values, or the refusal of one check. The cases
 //! and their numbers are the table of paper 01, "Where each step is checked",
-//! without 18: paper 02, Change 2, "Number 18 is given no more".
+//! without 18 (paper 02, Change 2, "Number 18 is given no more"), and the checks
+//! of a step that paper 02 adds.
 
 use crate::mail::PairCount;
 
@@ -62,11 +63,13 @@ pub enum Refusal {
     DeskFull = 24,
     /// Start, move: 65,535 numbers drawn on h.
     NumbersExhausted = 25,
+    /// Send: the pair has already sent 4,294,967,295 (paper 02, Change 4).
+    SendsExhausted = 28,
 }
 
 impl Refusal {
     /// All refusals, ascending by number.
-    pub const ALL: [Refusal; 24] = [
+    pub const ALL: [Refusal; 25] = [
         Refusal::UnsoundState,
         Refusal::UnknownKind,
         Refusal::CutShort,
@@ -91,6 +94,7 @@ impl Refusal {
         Refusal::UnreadRemain,
         Refusal::DeskFull,
         Refusal::NumbersExhausted,
+        Refusal::SendsExhausted,
     ];
 
     /// The refusal with this number; none where no answer has it.

@@ -1,6 +1,6 @@
-//! What each refusal of paper 01, "Where each step is checked", means at the
-//! rack, and what to do: the one source of a run told in words, and of the
-//! table in docs/REFUSALS.md, which also has the numbers that are withdrawn.
+//! What each refusal of a step means at the rack, and what to do: the one source
+//! of a run told in words, and of the table in docs/REFUSALS.md, which also has
+//! the numbers that are withdrawn.
 
 use crate::refusal::Refusal;
 
@@ -128,6 +128,11 @@ impl Refusal {
             Refusal::NumbersExhausted => (
                 "all 65,535 numbers of that host are drawn",
                 "use another host",
+            ),
+            Refusal::SendsExhausted => (
+                "the pair has sent 4,294,967,295 messages already: its running numbers are used up",
+                "begin anew with a fresh desk, or send over another rank; what is unread can \
+                    still be taken",
             ),
         }
     }

@@ -1,7 +1,9 @@
-//! The plain state of paper 01, "Names and places": everything the desk holds,
-//! in types wide enough for unsound states too. Soundness is defined on it,
-//! and a `Desk` is built from a sound one and written back to one.
+//! The plain state of paper 01, "Names and places", with the running numbers of
+//! paper 02, Change 4: everything the desk holds, in types wide enough for
+//! unsound states too. Soundness is defined on it, and a `Desk` is built from a
+//! sound one and written back to one.
 
+use crate::mail::RunningNumber;
 use crate::names::{Host, Rank, Vmid};
 
 /// "A rank's standing is unstarted, running, moving or ended."
@@ -94,10 +96,13 @@ pub struct Message {
     pub value: u32,
     /// The number of its place; the places are 0 to 3.
     pub place: u8,
+    /// "The number of a message within its ordered pair, from 1 in order of
+    /// sending" (paper 02, Change 4).
+    pub number: RunningNumber,
 }
 
-/// The whole state. A row of `tables`, `lines` or `awaits` is the holder's; a
-/// column is the rank it is about.
+/// The whole state. A row of `tables`, `lines` or `awaits` is the holder's, and
+/// one of `sent` the sender's; a column is the rank it is about.
 #[derive(Clone, Debug, PartialEq, Eq)]
 pub struct Snapshot {
     /// Each rank's standing.
@@ -113,6 +118,8 @@ pub struct Snapshot {
     /// The unread messages. Within a pair they stand in order of sending;
     /// the order between pairs carries no meaning.
     pub messages: Vec<Message>,
+    /// How many messages each ordered pair has sent.
+    pub sent: [[RunningNumber; Rank::COUNT]; Rank::COUNT],
     /// How many numbers were drawn on each host.
     pub drawn: [u32; Host::COUNT],
 }
@@ -128,6 +135,7 @@ impl Snapshot {
             awaits: [[Await::None; Rank::COUNT]; Rank::COUNT],
             calls: [None; Rank::COUNT],
             messages: Vec::new(),
+            sent: [[0; Rank::COUNT]; Rank::COUNT],
             drawn: [0; Host::COUNT],
         }
     }

@@ -1,12 +1,12 @@
 //! Soundness: paper 01, "Sound states", one function for each of its clauses,
-//! in its order. The clauses on range come first, since the others speak only
-//! of ranks, hosts and places that there are.
+//! in its order, then those that paper 02 adds. The clauses on range come first,
+//! since the others speak only of ranks, hosts and places that there are.
 
 use crate::mail::{Mail, Place};
 use crate::names::{Rank, Vmid};
 use crate::snapshot::{Await, Line, Message, Snapshot, Standing};
 
-/// A clause of "Sound states".
+/// A clause of "Sound states", or of what a request adds to it.
 #[derive(Clone, Copy, Debug, PartialEq, Eq, PartialOrd, Ord)]
 #[allow(missing_docs)]
 pub enum Clause {
@@ -36,10 +36,12 @@ pub enum Clause {
     MoverLaneOnlyWithAwait,
     CurrentLaneOnlyWithLine,
     PlacesNeverFall,
+    RunningNumbersRise,
+    RunningNumbersWithinSent,
 }
 
 impl Clause {
-    /// All clauses, in the order of the paper but for those on range.
+    /// All clauses, in the order of the papers but for those on range.
     pub fn all() -> impl Iterator<Item = Clause> {
         RANGES.iter().chain(&RELATIONS).map(|&(clause, _)| clause)
     }
@@ -55,7 +57,7 @@ const RANGES: [Test; 4] = [
     (Clause::PlacesInRange, places_in_range),
 ];
 
-const RELATIONS: [Test; 22] = [
+const RELATIONS: [Test; 24] = [
     (Clause::NumbersDrawn, numbers_drawn),
     (
         Clause::EntriesUnknownForUnstarted,
@@ -84,6 +86,11 @@ const RELATIONS: [Test; 22] = [
     (Clause::MoverLaneOnlyWithAwait, mover_lane_only_with_await),
     (Clause::CurrentLaneOnlyWithLine, current_lane_only_with_line),
     (Clause::PlacesNeverFall, places_never_fall),
+    (Clause::RunningNumbersRise, running_numbers_rise),
+    (
+        Clause::RunningNumbersWithinSent,
+        running_numbers_within_sent,
+    ),
 ];
 
 /// "A state is sound when all of these hold."
@@ -153,8 +160,18 @@ fn all_calls(state: &Snapshot, holds: impl Fn(Rank, Rank) -> bool) -> bool {
         .all(|caller| state.calls[caller.index()].is_none_or(|call| holds(caller, call.called)))
 }
 
-fn all_messages(state: &Snapshot, holds: impl FnMut(&Message) -> bool) -> bool {
+fn all_messages<'a>(state: &'a Snapshot, holds: impl FnMut(&'a Message) -> bool) -> bool {
     state.messages.iter().all(holds)
+}
+
+/// Each message with the one of its pair that was sent before it, where that is
+/// unread too.
+fn all_successive(state: &Snapshot, holds: impl Fn(&Message, &Message) -> bool) -> bool {
+    let mut last = [[None; Rank::COUNT]; Rank::COUNT];
+    all_messages(state, |m| {
+        let before: Option<&Message> = last[m.sender.index()][m.receiver.index()].replace(m);
+        before.is_none_or(|before| holds(before, m))
+    })
 }
 
 fn ranks_in_range(state: &Snapshot) -> bool {
@@ -291,9 +308,18 @@ fn current_lane_only_with_line(state: &Snapshot) -> bool {
 }
 
 fn places_never_fall(state: &Snapshot) -> bool {
-    let mut reached = [[0; Rank::COUNT]; Rank::COUNT];
+    all_successive(state, |before, m| before.place <= m.place)
+}
+
+/// "Sound pairs have unread numbers rising" (paper 02, Change 4).
+fn running_numbers_rise(state: &Snapshot) -> bool {
+    all_successive(state, |before, m| before.number < m.number)
+}
+
+/// "Within 1 to the count sent" (paper 02, Change 4).
+fn running_numbers_within_sent(state: &Snapshot) -> bool {
     all_messages(state, |m| {
-        let highest = &mut reached[m.sender.index()][m.receiver.index()];
-        m.place >= std::mem::replace(highest, m.place)
+        let sent = state.sent[m.sender.index()][m.receiver.index()];
+        (1..=sent).contains(&m.number)
     })
 }

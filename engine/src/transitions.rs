@@ -1,6 +1,6 @@
 //! What each accepted step does and answers: paper 01, "The step log", one
-//! function for each kind, in its order. Each assumes that the step passed all
-//! checks in this sound state.
+//! function for each kind, in its order, with the running numbers of paper 02,
+//! Change 4. Each assumes that the step passed all checks in this sound state.
 
 use crate::desk::Desk;
 use crate::mail::Place;
@@ -79,12 +79,13 @@ impl Desk {
         [count_value(unread), 0, 0]
     }
 
+    /// "A take gives it as v3": the message's running number.
     fn take(&mut self, b: Rank, a: Rank) -> Values {
-        let (value, left) = self
+        let (taken, left) = self
             .mail
             .take_first(a, b)
             .expect("check 22: the pair has a message unread");
-        [value, count_value(left), 0]
+        [taken.value, count_value(left), taken.number]
     }
 
     fn begin_move(&mut self, r: Rank, h: Host) -> Values {
@@ -123,9 +124,10 @@ impl Desk {
         [count_value(moved), 0, 0]
     }
 
+    /// "And a drain that moves a message does too."
     fn drain(&mut self, r: Rank, s: Rank) -> Values {
         match self.mail.list_first_of_mover_lane(s, r) {
-            Some(value) => [0, value, 0],
+            Some(moved) => [0, moved.value, moved.number],
             None => {
                 self.marked[r.index()].remove(s);
                 [1, 0, 0]

@@ -1,7 +1,7 @@
 //! A log whose records are all refused, after those that make a desk at which
 //! every refusal from 4 to 23 can be given; 18 is none. 24 and 25 need a full
-//! desk and a host without numbers, 2 and 3 end a run, and 1 is never given in
-//! one.
+//! desk and a host without numbers, 28 a pair that has sent 4,294,967,295, 2 and
+//! 3 end a run, and 1 is never given in one.
 
 use crate::pass::Pass;
 use engine::{Host, Kind, Rank, Refusal, Step};

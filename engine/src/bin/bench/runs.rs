@@ -6,7 +6,7 @@ use crate::table::{self, SideBySide};
 
 /// The bytes in which the proved program keeps the state of a run, by its
 /// types.
-const PROVED_STATE: usize = 2 * 6_914 + 4 * 2_048 + 8 * 552;
+const PROVED_STATE: usize = 2 * 6_914 + 4 * 4_352 + 8 * 552;
 
 /// Both programs on inputs with at least so many records each.
 pub fn side_by_side(

@@ -32,8 +32,8 @@ impl Unread {
             markers: vec![None; Rank::COUNT * Rank::COUNT],
         };
         for (sender, receiver) in pairs() {
-            for (value, _) in desk.mail().unread_of_pair(sender, receiver) {
-                unread.add_message(sender, receiver, value, 0);
+            for (content, _) in desk.mail().unread_of_pair(sender, receiver) {
+                unread.add_message(sender, receiver, content.value, 0);
             }
         }
         unread.note_places(0, desk);

@@ -1,4 +1,5 @@
-//! What an accepted record did, in the words of paper 01, "The step log".
+//! What an accepted record did, in the words of paper 01, "The step log", with
+//! the running number of a message that is drained or taken.
 
 use super::counted::{messages, of_the_pair, verb};
 use super::open_moves::{End, OpenMoves};
@@ -13,10 +14,10 @@ pub fn sentences(step: Step, values: Values, moves: &OpenMoves) -> String {
         Step::Call { a, b } => call(a, b, v1, v2),
         Step::Route { a, b } => route(a, b, values),
         Step::Send { a, b, value } => send(a, b, value, v1, moves.end_reached(a, b)),
-        Step::Take { b, a } => take(b, a, v1, v2),
+        Step::Take { b, a } => take(b, a, values),
         Step::Move { r, .. } => begin_move(r, values, moves.is_present_host(r, v1)),
         Step::Heed { b, r } => heed(b, r, v1),
-        Step::Drain { r, s } => drain(r, s, v1, v2),
+        Step::Drain { r, s } => drain(r, s, values),
         Step::Land { r } => land(r, v1),
         Step::Part { a, b } => part(a, b, v1, v2),
         Step::End { r } => format!("rank {} ends; it keeps its last vmid.", r.0),
@@ -62,9 +63,12 @@ fn send(Rank(a): Rank, Rank(b): Rank, value: u32, unread: u32, end: End) -> Stri
     format!("{sent}; {} unread.", of_the_pair(unread))
 }
 
-fn take(Rank(b): Rank, Rank(a): Rank, value: u32, unread: u32) -> String {
+fn take(Rank(b): Rank, Rank(a): Rank, [value, unread, number]: Values) -> String {
     let left = of_the_pair(unread);
-    format!("rank {b} takes {value}, the first unread message from rank {a}; {left} left.")
+    format!(
+        "rank {b} takes {value}, the first unread message from rank {a}, \
+         with running number {number}; {left} left."
+    )
 }
 
 fn begin_move(Rank(r): Rank, [host, number, awaits]: Values, restarts: bool) -> String {
@@ -104,11 +108,12 @@ fn heed(Rank(b): Rank, Rank(r): Rank, moved: u32) -> String {
     )
 }
 
-fn drain(Rank(r): Rank, Rank(s): Rank, outcome: u32, value: u32) -> String {
+fn drain(Rank(r): Rank, Rank(s): Rank, [outcome, value, number]: Values) -> String {
     match outcome {
-        0 => {
-            format!("the mover of rank {r} reads {value} from the lane of rank {s} into its list.")
-        }
+        0 => format!(
+            "the mover of rank {r} reads {value}, with running number {number}, \
+             from the lane of rank {s} into its list."
+        ),
         _ => format!(
             "the mover of rank {r} reads the end marker of rank {s}: \
              nothing more comes on that lane, and the await is over."
