@@ -7,7 +7,8 @@ use crate::log::Log;
 use crate::program::{Input, Program};
 use crate::tally::Tally;
 use crate::{
-    full_pair, garbage, limits, made_up, paper, probes, random, restarts, short_records, window,
+    full_pair, garbage, limits, made_up, paper, probes, random, restarts, running_numbers,
+    short_records, window,
 };
 use engine::text::decode;
 use std::fs::{self, File};
@@ -30,6 +31,7 @@ static LOGS: LazyLock<Vec<Log>> = LazyLock::new(|| {
         short_records::logs(),
         limits::logs(),
         window::logs(),
+        running_numbers::logs(),
         made_up::logs(),
         full_pair::logs(),
         probes::logs(),

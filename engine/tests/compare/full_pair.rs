@@ -5,18 +5,14 @@
 //! line shows them, then followed by all that the desk refuses.
 
 mod scenarios;
-mod script;
 
 use crate::log::{append_random, Feed, Log};
 use crate::probes::append_refused;
 use crate::random::with_spoiled;
+use crate::script::{Script, Stop, PAIRS};
 use engine::bits::Bits;
 use engine::generate::Mix;
 use scenarios::SCENARIOS;
-use script::{Script, Stop};
-
-/// Senders and receivers.
-const PAIRS: [(u8, u8); 5] = [(0, 1), (1, 0), (15, 14), (0, 15), (7, 8)];
 
 /// The scenarios of a pair, each with the name of its log.
 fn scripts(sender: u8, receiver: u8) -> impl Iterator<Item = (String, Script)> {
@@ -73,14 +69,7 @@ mod tests {
     #[test]
     fn every_step_answers_as_written_and_all_is_taken() {
         for (name, script) in all_scripts() {
-            let page = printed(&script.log);
-            let lines: Vec<&str> = page.lines().collect();
-            let (steps, behind) = lines.split_at(script.answers.len());
-            for (line, [number, v1, v2, v3]) in steps.iter().zip(&script.answers) {
-                let answer = format!(" {number} {v1} {v2} {v3}");
-                assert!(line.ends_with(&answer), "{name}: '{line}', not{answer}");
-            }
-            assert_eq!(behind, ["end"], "{name}");
+            script.check(&name);
         }
     }
 

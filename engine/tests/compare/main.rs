@@ -22,6 +22,8 @@ mod program;
 mod proved_program;
 mod random;
 mod restarts;
+mod running_numbers;
+mod script;
 mod short_records;
 #[path = "../shared/situations.rs"]
 mod situations;

@@ -29,9 +29,7 @@ impl Restarts {
                 let carried = &mut self.carried[b.index()][a.index()];
                 *carried = carried.saturating_sub(1);
             }
-            Step::Move { r, h } if hosts_of(desk.standing(r)) == [h; 2] => {
-                self.note_restart(desk, r, h);
-            }
+            Step::Move { r, h } if is_restart(desk, r, h) => self.note_restart(desk, r, h),
             _ => {}
         }
     }
@@ -78,6 +76,11 @@ impl Restarts {
             ),
         ]
     }
+}
+
+/// Whether an accepted move goes to the rank's present host.
+pub fn is_restart(desk: &Desk, r: Rank, h: Host) -> bool {
+    hosts_of(desk.standing(r)) == [h; 2]
 }
 
 /// The hosts of the old and of the new process; they are one process where the

@@ -1,12 +1,14 @@
 //! How often a run came into the situations of paper 01 that are easy to get
 //! wrong: overlapping moves, lines that are notices, calls that miss, limits;
-//! and into those of a restart and of a full pair.
+//! into those of a restart and of a full pair; and to which running numbers.
 
 mod full_pairs;
 mod restarts;
+mod running_numbers;
 
 pub use full_pairs::FullPairs;
 pub use restarts::Restarts;
+pub use running_numbers::RunningNumbers;
 
 use engine::{Desk, Kind, Line, Rank, Refusal, Step, Values};
 
@@ -26,6 +28,7 @@ pub struct Situations {
     refused_full: u64,
     pub restarts: Restarts,
     pub full_pairs: FullPairs,
+    pub running_numbers: RunningNumbers,
 }
 
 impl Situations {
@@ -39,6 +42,7 @@ impl Situations {
         if checked.is_ok() {
             self.restarts.note(desk, step);
             self.full_pairs.note(desk, step);
+            self.running_numbers.note_before(desk, step);
         }
         match (step, checked) {
             (Step::Send { .. }, Err(Refusal::DeskFull)) => self.refused_full += 1,
@@ -65,6 +69,7 @@ impl Situations {
 
     /// Looks at an accepted step after it is made.
     pub fn note_after(&mut self, step: Step, values: Values) {
+        self.running_numbers.note_after(step, values);
         let (kind, ..) = step.fields();
         match (kind, values[0]) {
             (Kind::Route, 1) => self.reroutes += 1,
@@ -96,6 +101,7 @@ impl Situations {
             ("sends to a full desk", self.refused_full),
         ];
         let (restarts, full_pairs) = (self.restarts.rows(), self.full_pairs.rows());
-        [&rows[..], &restarts, &full_pairs].concat()
+        let running_numbers = self.running_numbers.rows();
+        [&rows[..], &restarts, &full_pairs, &running_numbers].concat()
     }
 }

@@ -1,7 +1,7 @@
 //! A state of the list as the second engine holds it.
 
 use crate::list::Listed;
-use engine::{Await, Call, Host, Line, Message, Rank, Snapshot, Standing, Vmid};
+use engine::{Await, Call, Host, Line, Message, Rank, RunningNumber, Snapshot, Standing, Vmid};
 
 fn byte(number: u32) -> u8 {
     u8::try_from(number).unwrap()
@@ -11,14 +11,29 @@ fn vmid(host: u32, number: u32) -> Vmid {
     Vmid(Host(byte(host)), u16::try_from(number).unwrap())
 }
 
-fn append(state: &mut Snapshot, count: u32, ends: [u32; 2], place: u32, value: u32) {
-    let message = Message {
-        sender: Rank(byte(ends[0])),
-        receiver: Rank(byte(ends[1])),
+/// One more message is unread; the count sent stays.
+fn put(state: &mut Snapshot, [a, b]: [u32; 2], place: u32, value: u32, number: RunningNumber) {
+    state.messages.push(Message {
+        sender: Rank(byte(a)),
+        receiver: Rank(byte(b)),
         value,
         place: byte(place),
+        number,
+    });
+}
+
+/// The same with the next number of its pair, which has then sent one more. For
+/// a rank above 15 there is no count, and the number is 1.
+fn append(state: &mut Snapshot, [a, b]: [u32; 2], place: u32, value: u32) {
+    let row = state.sent.get_mut(a as usize);
+    let number = match row.and_then(|row| row.get_mut(b as usize)) {
+        Some(sent) => {
+            *sent += 1;
+            *sent
+        }
+        None => 1,
     };
-    state.messages.extend((0..count).map(|_| message));
+    put(state, [a, b], place, value, number);
 }
 
 fn change(state: &mut Snapshot, line: &str) {
@@ -49,8 +64,12 @@ fn change(state: &mut Snapshot, line: &str) {
         ("notice", [_, _]) => state.lines[at(0)][at(1)] = Line::Notice,
         ("unheeded", [_, _]) => state.awaits[at(0)][at(1)] = Await::Unheeded,
         ("marked", [_, _]) => state.awaits[at(0)][at(1)] = Await::Marked,
-        ("message", &[a, b, place, value]) => append(state, 1, [a, b], place, value),
-        ("messages", &[count, a, b, place, value]) => append(state, count, [a, b], place, value),
+        ("message", &[a, b, place, value]) => append(state, [a, b], place, value),
+        ("messages", &[count, a, b, place, value]) => {
+            (0..count).for_each(|_| append(state, [a, b], place, value));
+        }
+        ("numbered", &[a, b, place, value, number]) => put(state, [a, b], place, value, number),
+        ("sent", &[_, _, n]) => state.sent[at(0)][at(1)] = n,
         _ => panic!("no change is written {line}"),
     }
 }

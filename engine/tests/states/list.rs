@@ -9,7 +9,7 @@ pub const ROOT: &str = concat!(env!("CARGO_MANIFEST_DIR"), "/..");
 pub struct Listed {
     /// The section that it stands in.
     pub section: String,
-    /// The sentence of paper 01 that it is about.
+    /// The sentence of the papers that it is about.
     pub sentence: String,
     /// Its changes, each a word and numbers.
     pub changes: Vec<String>,

@@ -7,7 +7,7 @@ mod list;
 mod theorems;
 
 use engine::{broken_clauses, is_sound, step, Clause, Outcome, Refusal};
-use list::{states, ROOT};
+use list::{states, Listed, ROOT};
 use std::collections::BTreeSet;
 
 #[test]
@@ -43,6 +43,22 @@ fn every_clause_is_broken_alone() {
         .collect();
     alone.insert(Clause::PlacesInRange);
     assert_eq!(alone, Clause::all().collect());
+}
+
+/// "Sound pairs have unread numbers rising within 1 to the count sent."
+#[test]
+fn running_numbers_are_unsound_by_themselves() {
+    let states = states();
+    let about = |listed: &&Listed| listed.sentence.ends_with("(paper 02, change 4)");
+    let of_numbers = [Clause::RunningNumbersRise, Clause::RunningNumbersWithinSent];
+    let mut met = BTreeSet::new();
+    for listed in states.iter().filter(about) {
+        let broken = broken_clauses(&built::snapshot(listed, &states[0]));
+        assert_eq!(broken.is_empty(), listed.sound, "{}", listed.name);
+        assert!(broken.len() <= 1, "{}: {broken:?}", listed.name);
+        met.extend(broken);
+    }
+    assert_eq!(met, BTreeSet::from(of_numbers));
 }
 
 #[test]

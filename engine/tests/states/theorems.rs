@@ -8,9 +8,9 @@ use crate::list::Listed;
 const WIDTH: usize = 140;
 
 /// The words of a change, as `specs/Words.antt` has them.
-const WORDS: [&str; 14] = [
+const WORDS: [&str; 16] = [
     "fresh", "running", "moving", "ended", "drawn", "table", "tables", "call", "plain", "notice",
-    "unheeded", "marked", "message", "messages",
+    "unheeded", "marked", "message", "messages", "numbered", "sent",
 ];
 
 /// The path and the text of each file.

@@ -97,7 +97,7 @@ fn sends_up_to_1024_accepted_then_24() {
     assert_eq!(desk.snapshot(), full);
     let answers = answers_of(&mut desk, &log_of("take 1 0, send 1 0 5, send 1 0 6"));
     let expected = [
-        Ok([u32::MAX, 1_023, 0]),
+        Ok([u32::MAX, 1_023, 1]),
         Ok([1, 0, 0]),
         Err(Refusal::DeskFull),
     ];

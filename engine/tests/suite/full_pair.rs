@@ -1,9 +1,10 @@
 //! One pair with all 1,024 messages that a desk can have unread, paper 02,
 //! Change 3: "The unread count of a pair never passes 1,024." Here it is the
-//! pair of rank 0, which sends the values 1 to 1,024, and rank 1.
+//! pair of rank 0, which sends the values 1 to 1,024, and rank 1; so a message's
+//! value is its running number too.
 
 use crate::text::{answers_of, desk_after, log_of, JOINED, TWO};
-use engine::{is_sound, Answer, Desk, Mail, PairCount, Place, Rank, Refusal};
+use engine::{is_sound, Answer, Content, Desk, Mail, PairCount, Place, Rank, Refusal};
 use std::ops::RangeInclusive;
 
 const ZERO: Rank = Rank(0);
@@ -28,14 +29,15 @@ fn send(desk: &mut Desk, values: RangeInclusive<u32>) {
 /// The mover drains these.
 fn drain(desk: &mut Desk, values: RangeInclusive<u32>) {
     for value in values {
-        assert_eq!(answer(desk, "drain 1 0"), Ok([0, value, 0]));
+        assert_eq!(answer(desk, "drain 1 0"), Ok([0, value, value]));
     }
 }
 
 /// Rank 1 takes all, in order, and then there is none.
 fn take_all(desk: &mut Desk) {
     for value in 1..=1_024 {
-        assert_eq!(answer(desk, "take 1 0"), Ok([value, 1_024 - value, 0]));
+        let left = 1_024 - value;
+        assert_eq!(answer(desk, "take 1 0"), Ok([value, left, value]));
     }
     assert_eq!(answer(desk, "take 1 0"), Err(Refusal::NothingUnread));
     assert_eq!(desk.mail().unread(), 0);
@@ -73,9 +75,11 @@ fn the_mail_counts_a_pair_in_sixteen_bits() {
     let moved: u16 = mail.shift(ZERO, ONE, Place::CurrentLane, Place::CurrentList);
     let counts: [u16; 4] = mail.counts(ZERO, ONE);
     assert_eq!((moved, counts), (1_024, [0, 0, 1_024, 0]));
-    let taken: Option<(u32, u16)> = mail.take_first(ZERO, ONE);
+    let taken: Option<(Content, u16)> = mail.take_first(ZERO, ONE);
     let unread: u16 = mail.unread_between(ZERO, ONE);
-    assert_eq!((taken, unread), (Some((7, 1_023)), 1_023));
+    let (value, number) = (7, 1);
+    let content = Content { value, number };
+    assert_eq!((taken, unread), (Some((content, 1_023)), 1_023));
 }
 
 #[test]

@@ -1,7 +1,7 @@
 //! The tests of the second engine, one module for each idea: paper 01's
 //! listing and edges, every refusal, soundness, order within pairs, and logs
-//! of any bytes and any length; paper 02's made-up passes, restarts and full
-//! pairs.
+//! of any bytes and any length; paper 02's made-up passes, restarts, full pairs
+//! and running numbers.
 
 mod edges;
 mod full_pair;
@@ -19,7 +19,9 @@ mod program;
 mod random_steps;
 mod refusals;
 mod restarts;
+mod running_numbers;
 #[path = "../shared/situations.rs"]
 mod situations;
+mod spent_pair;
 mod text;
 mod unsound;

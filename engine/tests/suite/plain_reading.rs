@@ -1,6 +1,7 @@
 //! Paper 01, "The step log", carried out sentence by sentence on the plain
-//! state with its one list of messages. Random lists run on it and on the
-//! engine: answers and whole states must be equal after each step.
+//! state with its one list of messages, and paper 02, Change 4, with it. Random
+//! lists run on it and on the engine: answers and whole states must be equal
+//! after each step.
 
 use crate::plain_table::lowest_number;
 use engine::generate::{Generator, Mix};
@@ -63,7 +64,9 @@ fn carry_out(state: &mut Snapshot, record: &[u8]) -> Values {
         }
         0x03 => route(state, x, y),
         0x04 => {
+            state.sent[x][y] += 1;
             state.messages.push(Message {
+                number: state.sent[x][y],
                 sender: Rank(x as u8),
                 receiver: Rank(y as u8),
                 value: u32::from_le_bytes(record[3..].try_into().unwrap()),
@@ -82,8 +85,8 @@ fn carry_out(state: &mut Snapshot, record: &[u8]) -> Values {
                 .enumerate()
                 .filter(|(_, m)| is_between(m, y, x));
             let (first, _) = of_pair.min_by_key(|&(index, m)| (m.place, index)).unwrap();
-            let value = state.messages.remove(first).value;
-            [value, unread_between(state, y, x), 0]
+            let taken = state.messages.remove(first);
+            [taken.value, unread_between(state, y, x), taken.number]
         }
         0x06 => begin_move(state, x, y),
         0x07 => {
@@ -99,7 +102,7 @@ fn carry_out(state: &mut Snapshot, record: &[u8]) -> Values {
                 .filter(|m| is_between(m, y, x) && m.place == 1);
             if let Some(first) = lane.next() {
                 first.place = 0;
-                return [0, first.value, 0];
+                return [0, first.value, first.number];
             }
             state.awaits[x][y] = Await::None;
             [1, 0, 0]
@@ -187,11 +190,17 @@ fn by_pairs(state: &Snapshot) -> Snapshot {
     sorted
 }
 
+/// From a fresh desk.
 fn compare(seed: u64, mix: Mix, steps: usize) {
+    assert_eq!(Desk::fresh().snapshot(), Snapshot::fresh());
+    compare_from(Snapshot::fresh(), seed, mix, steps);
+}
+
+/// From a sound state; how many steps got 28 is given.
+fn compare_from(mut plain: Snapshot, seed: u64, mix: Mix, steps: usize) -> usize {
     let mut generator = Generator::new(seed, mix);
-    let mut desk = Desk::fresh();
-    let mut plain = Snapshot::fresh();
-    assert_eq!(desk.snapshot(), plain);
+    let mut desk = Desk::from_snapshot(&plain).expect("the state is sound");
+    let mut exhausted = 0;
     for _ in 0..steps {
         let step = generator.propose(&desk);
         let mut record = Vec::new();
@@ -199,6 +208,7 @@ fn compare(seed: u64, mix: Mix, steps: usize) {
         let answer = desk.step_sound(&record, 0).answer;
         let number = lowest_number(&plain, &record);
         assert_eq!(number_of(&answer), number, "{step:?}");
+        exhausted += usize::from(number == 28);
         if number == 0 && record[0] == 0x0C {
             let [sender, rest @ ..] = values_of(&answer);
             assert!(unread_between(&plain, sender as usize, usize::from(record[1])) > 0);
@@ -215,6 +225,7 @@ fn compare(seed: u64, mix: Mix, steps: usize) {
         let rebuilt = Desk::from_snapshot(&plain).expect("the state is sound");
         assert_eq!(rebuilt.snapshot(), state);
     }
+    exhausted
 }
 
 #[test]
@@ -228,11 +239,27 @@ fn lists_with_restarts_agree_with_the_plain_reading() {
 }
 
 /// Mostly refused steps: the order of the checks matters most here.
+const STRAYS: Mix = Mix {
+    stray_one_in: 2,
+    ..Mix::BROAD
+};
+
 #[test]
 fn stray_lists_agree_with_the_plain_reading() {
+    (21..24).for_each(|seed| compare(seed, STRAYS, 8_000));
+}
+
+/// Every pair can send one message more, and then gets 28.
+#[test]
+fn lists_with_spent_pairs_agree_with_the_plain_reading() {
     let mix = Mix {
         stray_one_in: 2,
-        ..Mix::BROAD
+        ..Mix::TRAFFIC
     };
-    (21..24).for_each(|seed| compare(seed, mix, 8_000));
+    for seed in 41..44 {
+        let mut spent = Snapshot::fresh();
+        spent.sent = [[u32::MAX - 1; 16]; 16];
+        let exhausted = compare_from(spent, seed, mix, 8_000);
+        assert!(exhausted >= 50, "seed {seed}: {exhausted}");
+    }
 }

@@ -1,7 +1,8 @@
 //! Paper 01's table of checks read row by row on the plain state, without the
-//! row of 18, which paper 02, Change 2, has "given no more": each number has
-//! its own test of when it is given, and the lowest that applies is given. The
-//! engine's own checks are ordered kind by kind; the two must agree.
+//! row of 18, which paper 02, Change 2, has "given no more", and with 28, which
+//! Change 4 adds: each number has its own test of when it is given, and the
+//! lowest that applies is given. The engine's own checks are ordered kind by
+//! kind; the two must agree.
 
 use engine::{Await, Line, Snapshot, Standing};
 
@@ -9,7 +10,7 @@ use engine::{Await, Line, Snapshot, Standing};
 /// kind in a sound state, or 0.
 pub fn lowest_number(state: &Snapshot, record: &[u8]) -> u8 {
     let row = Row { state, record };
-    let mut numbers = (4..=17).chain(19..=25);
+    let mut numbers = (4..=17).chain(19..=25).chain([28]);
     numbers.find(|&number| row.applies(number)).unwrap_or(0)
 }
 
@@ -111,6 +112,7 @@ impl Row<'_> {
             23 => self.is(&[0x0B]) && self.any_message(None, self.first(), ANY_PLACE),
             24 => self.is(&[0x04]) && state.messages.len() >= 1_024,
             25 => self.is(&[0x01, 0x06]) && state.drawn[self.second()] >= 65_535,
+            28 => self.is(&[0x04]) && state.sent[self.first()][self.second()] == 4_294_967_295,
             _ => unreachable!("the table has no such row"),
         }
     }

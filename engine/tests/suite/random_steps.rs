@@ -1,6 +1,7 @@
 //! Long lists of pseudo-random steps: after each step the state is sound, and
 //! for each ordered pair the values taken and then those unread are the values
-//! sent. The lists must reach the situations that are easy to get wrong.
+//! sent, with the numbers 1, 2, 3 up to the count sent. The lists must reach the
+//! situations that are easy to get wrong.
 
 use crate::situations::Situations;
 use engine::generate::{Generator, Mix};
@@ -30,22 +31,30 @@ impl History {
     fn note(&mut self, step: Step, values: Values) {
         match step {
             Step::Send { a, b, value } => self.sent[pair(a, b)].push(value),
-            Step::Take { b, a } => self.taken[pair(a, b)].push(values[0]),
+            Step::Take { b, a } => {
+                let taken = &mut self.taken[pair(a, b)];
+                taken.push(values[0]);
+                assert_eq!(values[2] as usize, taken.len(), "a gap in the numbers");
+            }
             _ => {}
         }
     }
 
-    /// Taken values followed by unread values are the sent values. That those
-    /// taken are the first of those sent was seen when they were taken.
+    /// Taken values followed by unread values are the sent values, and likewise
+    /// with the numbers. That those taken are the first of those sent was seen
+    /// when they were taken.
     fn check_unread(&self, state: &Snapshot) {
         let mut counts: Vec<usize> = self.taken.iter().map(Vec::len).collect();
         for message in &state.messages {
             let pair = pair(message.sender, message.receiver);
             assert_eq!(self.sent[pair].get(counts[pair]), Some(&message.value));
             counts[pair] += 1;
+            assert_eq!(message.number as usize, counts[pair]);
         }
         let sent: Vec<usize> = self.sent.iter().map(Vec::len).collect();
         assert_eq!(counts, sent);
+        let kept = state.sent.iter().flatten();
+        assert!(kept.map(|&count| count as usize).eq(sent));
     }
 
     fn check_taken(&self) {

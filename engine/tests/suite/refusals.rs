@@ -1,12 +1,13 @@
-//! Every refusal from 2 to 25 in every kind that paper 01's table of checks
-//! names for it: the number, zero values, an unchanged state, and a position
-//! that passes the record. Every pair of the table is reachable but that of 18,
-//! which is given no more (paper 02, Change 2).
+//! Every refusal from 2 on in every kind that the papers' checks name for it:
+//! the number, zero values, an unchanged state, and a position that passes the
+//! record. Every pair of paper 01's table is reachable but that of 18, which is
+//! given no more (paper 02, Change 2). 28 (Change 4) is met in a state that is
+//! handed in: no test can send 4,294,967,295 messages.
 
 use crate::edges::nearly_exhausted;
-use crate::text::{desk_after_log, kind_of, log_of, number_after, JOINED, WORDS};
+use crate::text::{desk_after, desk_after_log, kind_of, log_of, number_after, JOINED, WORDS};
 use engine::refusal::{number_of, values_of};
-use engine::{step, Message, Rank};
+use engine::{step, Message, Rank, Snapshot};
 use std::collections::BTreeSet;
 
 /// Ranks 0 and 1 joined, rank 2 ended, rank 3 moving with an await of 0 that
@@ -82,21 +83,30 @@ const NAMED: &[(u8, &[&str])] = &[
     (23, &["end"]),
     (24, &["send"]),
     (25, &["start", "move"]),
+    (28, &["send"]),
 ];
 
-/// All rows with their setups as logs, those of the limits included.
-fn rows() -> Vec<(u8, Vec<u8>, &'static [&'static str])> {
+/// All rows with the states of their setups, those of the limits included.
+fn rows() -> Vec<(u8, Snapshot, &'static [&'static str])> {
+    let state = |log: &[u8]| desk_after_log(log).snapshot();
     let mut rows: Vec<_> = ROWS
         .iter()
-        .map(|&(number, setup, records)| (number, log_of(setup), records))
+        .map(|&(number, setup, records)| (number, state(&log_of(setup)), records))
         .collect();
     let mut full = log_of(JOINED);
     full.extend(log_of("send 0 1 9").repeat(1_024));
     full.extend(log_of("start 2 2"));
+    let full = state(&full);
     rows.push((15, full.clone(), &["send 0 2 1", "send 2 1 1"]));
     rows.push((24, full, &["send 0 1 1", "send 1 0 1"]));
+    rows.push((
+        28,
+        spent(CROWD),
+        &["send 0 1 1", "send 1 0 1", "send 0 3 1"],
+    ));
     let mut exhausted = nearly_exhausted();
     exhausted.extend(log_of("start 1 1"));
+    let exhausted = state(&exhausted);
     rows.push((8, exhausted.clone(), &["start 0 0", "start 1 1"]));
     rows.push((
         25,
@@ -113,10 +123,17 @@ fn rows() -> Vec<(u8, Vec<u8>, &'static [&'static str])> {
     rows
 }
 
+/// The state that accepted steps leave, but every pair has already sent
+/// 4,294,967,295.
+pub fn spent(steps: &str) -> Snapshot {
+    let mut state = desk_after(steps).snapshot();
+    state.sent = [[4_294_967_295; 16]; 16];
+    state
+}
+
 #[test]
 fn every_row_is_refused_with_its_number() {
-    for (number, setup, records) in rows() {
-        let before = desk_after_log(&setup).snapshot();
+    for (number, before, records) in rows() {
         for record in records {
             let log = log_of(record);
             let mut state = before.clone();
@@ -198,19 +215,23 @@ fn a_byte_that_is_no_kind_gives_2() {
 #[test]
 fn messages_in_any_order_between_pairs_are_read_and_left() {
     let mut lent = desk_after_log(&log_of(JOINED)).snapshot();
-    for (sender, receiver, value) in [(1, 0, 5), (0, 1, 6), (1, 0, 7), (0, 1, 8)] {
+    for (sender, receiver, value, number) in
+        [(1, 0, 5, 2), (0, 1, 6, 1), (1, 0, 7, 3), (0, 1, 8, 9)]
+    {
         lent.messages.push(Message {
             sender: Rank(sender),
             receiver: Rank(receiver),
             value,
             place: 3,
+            number,
         });
     }
+    (lent.sent[0][1], lent.sent[1][0]) = (9, 4);
     let mut state = lent.clone();
     assert_eq!(number_of(&step(&mut state, &log_of("end 0"), 0).answer), 12);
     assert_eq!(state, lent);
     let takes = log_of("take 0 1, take 1 0, take 0 1, take 1 0");
-    let values = [[5, 1, 0], [6, 1, 0], [7, 0, 0], [8, 0, 0]];
+    let values = [[5, 1, 2], [6, 1, 1], [7, 0, 3], [8, 0, 9]];
     for (position, taken) in (0..).step_by(3).zip(values) {
         assert_eq!(step(&mut state, &takes, position).answer, Ok(taken));
     }

@@ -17,11 +17,12 @@ const TOGETHER: &str = "start 0 3, start 1 3, call 0 1, route 0 1";
 /// on host 1 and lands.
 const RESTARTED: &str = "move 1 1, heed 0 1, drain 1 0, land 1";
 
-/// The values that rank 1 takes from rank 0 until nothing is unread.
-fn taken(desk: &mut Desk) -> Vec<u32> {
+/// The values that rank 1 takes from rank 0 until nothing is unread, each with
+/// its running number.
+fn taken(desk: &mut Desk) -> Vec<(u32, u32)> {
     let take = log_of("take 1 0");
     let takes = std::iter::from_fn(|| desk.step_sound(&take, 0).answer.ok());
-    takes.map(|[value, ..]| value).collect()
+    takes.map(|[value, _, number]| (value, number)).collect()
 }
 
 #[test]
@@ -70,14 +71,14 @@ fn messages_before_during_and_after_a_restart_keep_their_order() {
     );
     let expected = [
         Err(Refusal::AwaitStands),
-        Ok([0, 2, 0]),
-        Ok([0, 3, 0]),
+        Ok([0, 2, 2]),
+        Ok([0, 3, 3]),
         Ok([1, 0, 0]),
         Ok([3, 0, 0]),
         Ok([5, 0, 0]),
     ];
     assert_eq!(answers, expected);
-    assert_eq!(taken(&mut desk), [1, 2, 3, 4, 5]);
+    assert_eq!(taken(&mut desk), [(1, 1), (2, 2), (3, 3), (4, 4), (5, 5)]);
 }
 
 /// 1 is carried over both restarts, 2 over the second.
@@ -87,12 +88,12 @@ fn a_rank_restarts_twice() {
     let again = "call 0 1, route 0 1, route 0 1, send 0 1 2";
     let mut desk = desk_after(&format!("{before}, {RESTARTED}, {again}"));
     let answers = answers_of(&mut desk, &log_of("move 1 1, heed 0 1, drain 1 0"));
-    assert_eq!(answers, [Ok([1, 3, 1]), Ok([0; 3]), Ok([0, 2, 0])]);
+    assert_eq!(answers, [Ok([1, 3, 1]), Ok([0; 3]), Ok([0, 2, 2])]);
     let answers = answers_of(&mut desk, &log_of("drain 1 0, land 1, call 0 1, route 0 1"));
     let expected = [Ok([1, 0, 0]), Ok([2, 0, 0]), Ok([1, 2, 0]), Ok([1, 1, 3])];
     assert_eq!(answers, expected);
     answers_of(&mut desk, &log_of("route 0 1, send 0 1 3"));
-    assert_eq!(taken(&mut desk), [1, 2, 3]);
+    assert_eq!(taken(&mut desk), [(1, 1), (2, 2), (3, 3)]);
 }
 
 /// As in case G of paper 01, both on one host.
@@ -107,9 +108,9 @@ fn joined_ranks_that_restart_at_once_need_no_heed() {
     let drains = "drain 0 1, drain 1 0, drain 0 1, drain 1 0, drain 0 1, land 1, land 0";
     let answers = answers_of(&mut desk, &log_of(drains));
     let expected = [
-        Ok([0, 6, 0]),
-        Ok([0, 5, 0]),
-        Ok([0, 7, 0]),
+        Ok([0, 6, 1]),
+        Ok([0, 5, 1]),
+        Ok([0, 7, 2]),
         Ok([1, 0, 0]),
         Ok([1, 0, 0]),
         Ok([1, 0, 0]),
@@ -119,7 +120,7 @@ fn joined_ranks_that_restart_at_once_need_no_heed() {
     assert_eq!(desk.standing(ZERO), Standing::Running(Vmid(Host(3), 3)));
     assert_eq!(desk.standing(ONE), Standing::Running(Vmid(Host(3), 4)));
     let answers = answers_of(&mut desk, &log_of("take 0 1, take 0 1, take 1 0"));
-    assert_eq!(answers, [Ok([6, 1, 0]), Ok([7, 0, 0]), Ok([5, 0, 0])]);
+    assert_eq!(answers, [Ok([6, 1, 1]), Ok([7, 0, 2]), Ok([5, 0, 1])]);
 }
 
 #[test]

@@ -1,6 +1,6 @@
-//! Refusal 1: for each clause of paper 01, "Sound states", states that break
-//! that clause and no other, with a record that is accepted in the state they
-//! were spoiled from. State and position stay.
+//! Refusal 1: for each clause of paper 01, "Sound states", and of what paper 02
+//! adds, states that break that clause and no other, with a record that is
+//! accepted in the state they were spoiled from. State and position stay.
 
 use crate::text::{desk_after, log_of};
 use engine::{broken_clauses, step, Await, Call, Clause, Host, Line, Message, Outcome};
@@ -20,12 +20,26 @@ const SPENT: Vmid = Vmid(Host(2), 1);
 
 type Spoil = fn(&mut Snapshot);
 
+/// One more message; with the next number of its pair, which has then sent one
+/// more. A rank that is none has no counts.
 fn message(state: &mut Snapshot, sender: u8, receiver: u8, place: u8) {
+    let row = state.sent.get_mut(usize::from(sender));
+    let sent = row.and_then(|row| row.get_mut(usize::from(receiver)));
+    let number = sent.map_or(1, |sent| {
+        *sent += 1;
+        *sent
+    });
+    numbered(state, sender, receiver, place, number);
+}
+
+/// One more message with this number; the count sent stays.
+fn numbered(state: &mut Snapshot, sender: u8, receiver: u8, place: u8, number: u32) {
     state.messages.push(Message {
         sender: Rank(sender),
         receiver: Rank(receiver),
         value: 12,
         place,
+        number,
     });
 }
 
@@ -169,6 +183,27 @@ const SPOILS: &[(Clause, &[Spoil])] = &[
         |s| message(s, 0, 3, 0),
         |s| { message(s, 4, 5, 2); message(s, 1, 5, 0); message(s, 4, 5, 0); },
     ]),
+    // "Sound pairs have unread numbers rising" (paper 02, Change 4)
+    (Clause::RunningNumbersRise, &[
+        |s| numbered(s, 0, 1, 3, 1),
+        |s| { s.sent[0][1] = 9; numbered(s, 0, 1, 3, 7); numbered(s, 0, 1, 3, 6); },
+        |s| { s.sent[4][5] = 9; for number in [5, 8, 8] { numbered(s, 4, 5, 2, number); } },
+        |s| {
+            s.sent[4][5] = 9;
+            numbered(s, 4, 5, 2, 5);
+            message(s, 1, 5, 2);
+            numbered(s, 4, 5, 2, 4);
+        },
+    ]),
+    // "within 1 to the count sent" (paper 02, Change 4)
+    (Clause::RunningNumbersWithinSent, &[
+        |s| numbered(s, 0, 1, 3, 2),
+        |s| numbered(s, 4, 5, 2, 0),
+        |s| numbered(s, 4, 5, 2, 1),
+        |s| { s.sent[4][5] = u32::MAX - 1; numbered(s, 4, 5, 2, u32::MAX); },
+        |s| { s.sent[5][4] = 3; numbered(s, 4, 5, 2, 3); },
+        |s| s.sent[0][1] = 0,
+    ]),
 ];
 
 #[test]
@@ -217,6 +252,8 @@ fn limits_themselves_are_sound() {
     (2..1_024).for_each(|_| message(&mut state, 1, 0, 3));
     state.drawn[7] = 65_535;
     state.tables[0][1] = Vmid(Host(7), 65_535);
+    let last = state.messages.last_mut().unwrap();
+    (last.number, state.sent[1][0]) = (u32::MAX, u32::MAX);
     assert_eq!(state.messages.len(), 1_024);
     assert_eq!(broken_clauses(&state), []);
     assert_eq!(

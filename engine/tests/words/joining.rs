@@ -55,16 +55,16 @@ const TOLD: &str = "\
     part 0 1: rank 0 and rank 1 part, and no line stands between them; 1 message goes from the lane to rank 0's list, 1 message to rank 1's.
 80 0C 0 0 0 0
     look 1: rank 1 looks: a message from rank 0 is unread.
-82 05 0 4294967295 1 0
-    take 1 0: rank 1 takes 4294967295, the first unread message from rank 0; 1 message of the pair is left.
-85 05 0 12 0 0
-    take 1 0: rank 1 takes 12, the first unread message from rank 0; no message of the pair is left.
-88 05 0 20 2 0
-    take 0 1: rank 0 takes 20, the first unread message from rank 1; 2 messages of the pair are left.
-91 05 0 21 1 0
-    take 0 1: rank 0 takes 21, the first unread message from rank 1; 1 message of the pair is left.
-94 05 0 22 0 0
-    take 0 1: rank 0 takes 22, the first unread message from rank 1; no message of the pair is left.
+82 05 0 4294967295 1 1
+    take 1 0: rank 1 takes 4294967295, the first unread message from rank 0, with running number 1; 1 message of the pair is left.
+85 05 0 12 0 2
+    take 1 0: rank 1 takes 12, the first unread message from rank 0, with running number 2; no message of the pair is left.
+88 05 0 20 2 1
+    take 0 1: rank 0 takes 20, the first unread message from rank 1, with running number 1; 2 messages of the pair are left.
+91 05 0 21 1 2
+    take 0 1: rank 0 takes 21, the first unread message from rank 1, with running number 2; 1 message of the pair is left.
+94 05 0 22 0 3
+    take 0 1: rank 0 takes 22, the first unread message from rank 1, with running number 3; no message of the pair is left.
 97 0B 0 0 0 0
     end 1: rank 1 ends; it keeps its last vmid.
 99 02 0 1 1 0

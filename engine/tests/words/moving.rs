@@ -59,32 +59,32 @@ const TOLD: &str = "\
     route 0 1: rank 0's call reaches 3.1, rank 1's current end: calls between the two close, and a plain line stands both ways.
 79 04 0 3 0 0
     send 0 1 12: rank 0 sends 12 to the arrival of rank 1; 3 messages of the pair are unread.
-86 08 0 0 10 0
-    drain 1 0: the mover of rank 1 reads 10 from the lane of rank 0 into its list.
-89 08 0 0 11 0
-    drain 1 0: the mover of rank 1 reads 11 from the lane of rank 0 into its list.
+86 08 0 0 10 1
+    drain 1 0: the mover of rank 1 reads 10, with running number 1, from the lane of rank 0 into its list.
+89 08 0 0 11 2
+    drain 1 0: the mover of rank 1 reads 11, with running number 2, from the lane of rank 0 into its list.
 92 08 0 1 0 0
     drain 1 0: the mover of rank 1 reads the end marker of rank 0: nothing more comes on that lane, and the await is over.
 95 08 0 1 0 0
     drain 1 2: the mover of rank 1 reads the end marker of rank 2: nothing more comes on that lane, and the await is over.
 98 09 0 2 0 0
     land 1: rank 1 lands: the arrival gets the mover's list and is the running process now; 2 messages are in its list.
-100 05 0 10 2 0
-    take 1 0: rank 1 takes 10, the first unread message from rank 0; 2 messages of the pair are left.
+100 05 0 10 2 1
+    take 1 0: rank 1 takes 10, the first unread message from rank 0, with running number 1; 2 messages of the pair are left.
 103 06 0 0 2 1
     move 1 0: rank 1 begins its move to host 0: the old process is its mover, the new one, 0.2, its arrival.
     The mover has 1 await: 1 lane to it must be drained, up to the end marker, before rank 1 lands.
 106 07 0 0 0 0
     heed 0 1: rank 0 heeds the move of rank 1 and closes its line; its end marker is on the lane to the mover, behind all that it sent.
     Nothing from rank 1 was on the lane to rank 0.
-109 08 0 0 12 0
-    drain 1 0: the mover of rank 1 reads 12 from the lane of rank 0 into its list.
+109 08 0 0 12 3
+    drain 1 0: the mover of rank 1 reads 12, with running number 3, from the lane of rank 0 into its list.
 112 08 0 1 0 0
     drain 1 0: the mover of rank 1 reads the end marker of rank 0: nothing more comes on that lane, and the await is over.
 115 09 0 2 0 0
     land 1: rank 1 lands: the arrival gets the mover's list and is the running process now; 2 messages are in its list.
-117 05 0 11 1 0
-    take 1 0: rank 1 takes 11, the first unread message from rank 0; 1 message of the pair is left.
+117 05 0 11 1 2
+    take 1 0: rank 1 takes 11, the first unread message from rank 0, with running number 2; 1 message of the pair is left.
 120 06 0 7 1 0
     move 1 7: rank 1 begins its move to host 7: the old process is its mover, the new one, 7.1, its arrival.
     The mover has no await: rank 1 can land at once.

@@ -1,8 +1,11 @@
 //! Every refusal that a log can give: which record, the number, what it means
-//! and what to do.
+//! and what to do. 28 would need a log of 4,294,967,295 sends over one pair: a
+//! program in the proved one's place gives it.
 
-use crate::program::{assert_told, log_of, run_within, told_of};
+use crate::feigned_program::root_with;
+use crate::program::{assert_told, file_with, log_of, printed, run_within, told_of};
 use engine::{run_slice, Kind, Refusal};
+use std::process::Command;
 
 const ALONE: &str = "start 0 0";
 const TWO: &str = "start 0 0, start 1 1";
@@ -81,6 +84,20 @@ fn every_refusal_is_told() {
 fn rows_reach_every_number_that_a_whole_record_gets() {
     let numbers: Vec<u8> = rows().iter().map(|(number, ..)| *number).collect();
     assert_eq!(numbers, Vec::from_iter((4..=17).chain(19..=25)));
+}
+
+#[test]
+fn a_spent_pair_is_told() {
+    let program = [("replay", "echo 0 04 28 0 0 0; echo end")];
+    let mut command = Command::new(env!("CARGO_BIN_EXE_command-line"));
+    command
+        .arg(root_with("words-spent", &program))
+        .arg("--words");
+    command.arg(file_with("spent.log", &log_of("send 0 1 500")));
+    let told = printed(command.output().unwrap());
+    let words = words_for("send 0 1 500", Refusal::SendsExhausted);
+    let line = format!("0 04 28 0 0 0\n{words}end\n    1 record: none accepted, 1 refused.\n");
+    assert!(told.starts_with(&line), "{told}");
 }
 
 const UNKNOWN: &str = "\

@@ -1,7 +1,7 @@
 //! What can happen to 1,024 messages of one pair: each scenario brings them
 //! about, stops where the pair's line shows them, and has all taken in order.
 
-use super::script::Script;
+use crate::script::Script;
 
 /// "At most 1,024 are unread in the whole desk."
 pub const FULL: u32 = 1_024;
@@ -77,8 +77,8 @@ fn taken(script: &mut Script) {
     script.steps("send T S 3: 24 0 0 0, send S T 4: 24 0 0 0, take S R: 22 0 0 0");
     script.takes(1);
     script.stop([0, 0, 0, FULL - 1]);
-    script.steps("send R S 5: 0 1 0 0, send S R 6: 24 0 0 0, take S R: 0 5 0 0");
-    script.steps("send T S 7: 0 1 0 0, send S R 8: 24 0 0 0, take S T: 0 7 0 0");
+    script.steps("send R S 5: 0 1 0 0, send S R 6: 24 0 0 0, take S R: 0 5 0 1");
+    script.steps("send T S 7: 0 1 0 0, send S R 8: 24 0 0 0, take S T: 0 7 0 1");
     script.sends(1);
     let mut left = FULL;
     for count in COUNTS.into_iter().rev() {
@@ -87,7 +87,7 @@ fn taken(script: &mut Script) {
         left = count;
     }
     script.takes(left);
-    script.steps("take R S: 22 0 0 0, look R: 22 0 0 0, send S R 9: 0 1 0 0, take R S: 0 9 0 0");
+    script.steps("take R S: 22 0 0 0, look R: 22 0 0 0, send S R 9: 0 1 0 0, take R S: 0 9 0 1026");
 }
 
 /// A message leaves and another comes, more often than the pair has messages.

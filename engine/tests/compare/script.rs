@@ -2,7 +2,11 @@
 //! that a log that is made for a situation cannot miss it unnoticed.
 
 use crate::log::{log_of, sends, value_of};
+use engine::run_slice;
 use std::ops::Range;
+
+/// Senders and receivers of scripts.
+pub const PAIRS: [(u8, u8); 5] = [(0, 1), (1, 0), (15, 14), (0, 15), (7, 8)];
 
 /// What the printed run shows at the end of a beginning of the log.
 pub struct Stop {
@@ -71,15 +75,16 @@ impl Script {
         for _ in 0..count {
             let value = value_of(self.taken);
             self.taken += 1;
-            let left = self.sent - self.taken;
-            self.steps(&format!("take R S: 0 {value} {left} 0"));
+            let (left, number) = (self.sent - self.taken, self.taken);
+            self.steps(&format!("take R S: 0 {value} {left} {number}"));
         }
     }
 
     /// Goes on with drains that move the messages with these indices.
     pub fn drains(&mut self, indices: Range<u32>) {
-        for value in indices.map(value_of) {
-            self.steps(&format!("drain R S: 0 0 {value} 0"));
+        for index in indices {
+            let (value, number) = (value_of(index), index + 1);
+            self.steps(&format!("drain R S: 0 0 {value} {number}"));
         }
     }
 
@@ -87,5 +92,17 @@ impl Script {
     pub fn stop(&mut self, counts: [u32; 4]) {
         let length = self.log.len();
         self.stops.push(Stop { length, counts });
+    }
+    /// Holds the printed run to what is written down: each step answers so, and
+    /// nothing is unread at the end.
+    pub fn check(&self, name: &str) {
+        let page = String::from_utf8(run_slice(&self.log)).unwrap();
+        let lines: Vec<&str> = page.lines().collect();
+        let (steps, behind) = lines.split_at(self.answers.len());
+        for (line, [number, v1, v2, v3]) in steps.iter().zip(&self.answers) {
+            let answer = format!(" {number} {v1} {v2} {v3}");
+            assert!(line.ends_with(&answer), "{name}: '{line}', not{answer}");
+        }
+        assert_eq!(behind, ["end"], "{name}");
     }
 }
