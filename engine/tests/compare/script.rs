@@ -93,6 +93,7 @@ impl Script {
         let length = self.log.len();
         self.stops.push(Stop { length, counts });
     }
+
     /// Holds the printed run to what is written down: each step answers so, and
     /// nothing is unread at the end.
     pub fn check(&self, name: &str) {
