@@ -1,5 +1,5 @@
-// A program that hands in a state which no log leads to: rank 0 has sent rank 1 all but one of 4,294,967,295 messages. Paper 02, change 4:
-// "28 for a send when the pair has already sent 4,294,967,295".
+// A program that hands in a state to which only a log of some 43 billion bytes leads: rank 0 has sent rank 1 all but one of 4,294,967,295
+// messages. Paper 02, change 4: "28 for a send when the pair has already sent 4,294,967,295".
 use broker::answer::Values;
 use broker::state::Broker;
 use libc::STDOUT_FILENO;

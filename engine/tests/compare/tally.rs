@@ -8,12 +8,12 @@ use engine::{Desk, Kind, Refusal, Step};
 /// The highest number of a check.
 const HIGHEST: usize = Refusal::SendsExhausted as usize;
 
-/// What no log gives: from a fresh desk no state is unsound, and no log is so
-/// long that a pair sends 4,294,967,295 messages. The tests of the engine by
+/// What no log here gives: from a fresh desk no state is unsound, and no log is
+/// so long that a pair sends 4,294,967,295 messages. The tests of the engine by
 /// itself meet 1 and 28 in states that are handed in.
 const HANDED_IN: [Refusal; 2] = [Refusal::UnsoundState, Refusal::SendsExhausted];
 
-/// The numbers that a log can give.
+/// The numbers that the logs give.
 pub fn numbers() -> impl Iterator<Item = usize> {
     let given = |refusal: &Refusal| !HANDED_IN.contains(refusal);
     let refusals = Refusal::ALL.into_iter().filter(given);

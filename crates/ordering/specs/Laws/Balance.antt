@@ -30,24 +30,25 @@ use Rattle.broker.specs.declared.record.Record.the-variants.{Start, Call, Route
 use Rattle.ordering.specs.Claim.{Reading, Entry, after, accepted, isTake, sent}
 use Rattle.ordering.specs.Laws.Runs.{entry, along}
 
+-- from a to b: the numbers that the takes of the entries answer, and a number of what an entry sent
+abbrev took : Rank → Rank → (Entry → ℕ) → List Entry → List ℕ
+took a b answer es = map answer (select (isTake a b) es)
+
+abbrev pub posted : Rank → Rank → (Message → ℕ) → State → Entry → List ℕ
+posted a b f s e = map (λ v. f (nextMessage a b EndList v (s .unread .sent))) (sent a b (e ∷ []))
+
+-- What one entry takes stands in front.
+took-cons : (a b : Rank) (answer : Entry → ℕ) (e : Entry) (es : List Entry)
+    → took a b answer (e ∷ es) ≡ took a b answer (e ∷ []) ++ took a b answer es
+took-cons a b answer e es = by-test (isTake a b e) (λ t. rw t) (λ t. rw t)
+
 -- From a to b: a number of a message, and where a take answers it.
 module _ (a b : Rank) (f : Message → ℕ) (answer : Entry → ℕ) where
-  -- the numbers that the entries took
-  abbrev pub took : List Entry → List ℕ
-  took es = map answer (select (isTake a b) es)
-
-  -- the number of what an entry sent
-  abbrev pub posted : State → Entry → List ℕ
-  posted s e = map (λ v. f (nextMessage a b EndList v (s .unread .sent))) (sent a b (e ∷ []))
-
-  -- What one entry takes stands in front.
-  took-cons : (e : Entry) (es : List Entry) → took (e ∷ es) ≡ took (e ∷ []) ++ took es
-  took-cons e es = by-test (isTake a b e) (λ t. rw t) (λ t. rw t)
-
   -- what an accepted record takes, and behind it what is left, is what was there, and behind it what it sends
   Balanced : (named : Rank) (s : State) (r : Record) → Type 0
   Balanced named s r =
-      took (entry named r s ∷ []) ++ eachBetween f a b (coreStep r (core s)) ≡ eachBetween f a b (core s) ++ posted s (entry named r s)
+      took a b answer (entry named r s ∷ []) ++ eachBetween f a b (coreStep r (core s)) ≡
+      eachBetween f a b (core s) ++ posted a b f s (entry named r s)
 
   -- a take answers the first number of its pair
   abbrev pub Answered : Type 0
@@ -101,17 +102,17 @@ balances-join t u v w x y z e f =
     append-assoc t u x ∙ ap (λ (l : List ℕ). t ++ l) f ∙ sym (append-assoc t w z) ∙ ap (λ (l : List ℕ). l ++ z) e ∙ append-assoc v y z
 
 -- what the sends of a list of entries add, from a state on: nothing where there are none, and what one entry sends stands in front
-pub record Adds (a b : Rank) (f : Message → ℕ) (answer : Entry → ℕ) (new : State → List Entry → List ℕ) : Type 0 where
+pub record Adds (a b : Rank) (f : Message → ℕ) (new : State → List Entry → List ℕ) : Type 0 where
   pub none-new : (s : State) → new s [] ≡ []
   pub one-new : (named : Rank) (s : State) (r : Record) (es : List Entry) → sound s ≡ true → refusal s r ≡ none
-      → new s (entry named r s ∷ es) ≡ posted a b f answer s (entry named r s) ++ new (apply named r s .state) es
+      → new s (entry named r s ∷ es) ≡ posted a b f s (entry named r s) ++ new (apply named r s .state) es
 
 module _ (a b : Rank) (f : Message → ℕ) (answer : Entry → ℕ) (new : State → List Entry → List ℕ)
-    (answered : Answered a b f answer) (adds : Adds a b f answer new) where
+    (answered : Answered a b f answer) (adds : Adds a b f new) where
   -- the same of the entries and the end of a list of steps from a state
   abbrev Balances : State → List Entry → State → Type 0
   Balances s es end =
-      took a b f answer es ++ map f (placeOrder (Between a b) (messages end)) ≡ eachBetween f a b (core s) ++ new s es
+      took a b answer es ++ map f (placeOrder (Between a b) (messages end)) ≡ eachBetween f a b (core s) ++ new s es
 
   step-balances : (s : State) (x : Reading) (r : Record) (next : ℕ) → sound s ≡ true → decode (x .log) (x .at) ≡ Whole r next
       → refusal s r ≡ none → (es : List Entry) (end : State) → Balances (apply (x .named) r s .state) es end
@@ -120,12 +121,12 @@ module _ (a b : Rank) (f : Message → ℕ) (answer : Entry → ℕ) (new : Stat
   step-balances s x r next h reads p es end rest =
       let e = entry (x .named) r s in
       let s′ = apply (x .named) r s .state in
-      let here : took a b f answer (e ∷ []) ++ eachBetween f a b (core s′) ≡ eachBetween f a b (core s) ++ posted a b f answer s e =
-      ap (λ (c : Core). took a b f answer (e ∷ []) ++ eachBetween f a b c) (core-step (x .named) s r h p) ∙
+      let here : took a b answer (e ∷ []) ++ eachBetween f a b (core s′) ≡ eachBetween f a b (core s) ++ posted a b f s e =
+      ap (λ (c : Core). took a b answer (e ∷ []) ++ eachBetween f a b c) (core-step (x .named) s r h p) ∙
       step-balanced a b f answer answered (x .named) s r h p in
-      rw (took-cons a b f answer e es, adds .one-new (x .named) s r es h p)
-      (balances-join (took a b f answer (e ∷ [])) (took a b f answer es) (eachBetween f a b (core s)) (eachBetween f a b (core s′))
-      (map f (placeOrder (Between a b) (messages end))) (posted a b f answer s e) (new s′ es) here rest)
+      rw (took-cons a b answer e es, adds .one-new (x .named) s r es h p)
+      (balances-join (took a b answer (e ∷ [])) (took a b answer es) (eachBetween f a b (core s)) (eachBetween f a b (core s′))
+      (map f (placeOrder (Between a b) (messages end))) (posted a b f s e) (new s′ es) here rest)
 
   -- It holds of every list of steps from a sound state, of a number that a message keeps wherever it is.
   pub balances : ((m : Message) → f (letter m) ≡ f m) → a .0 < ranks → b .0 < ranks → (xs : List Reading) (s : State) → sound s ≡ true

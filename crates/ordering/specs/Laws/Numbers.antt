@@ -73,21 +73,21 @@ module _ (a b : Rank) (ha : a .0 < ranks) (hb : b .0 < ranks) where
   numbersSent s es = upFrom (sentBetween a b s + 1) (length (sent a b es))
 
   -- One entry sends no number, or the next one.
-  next-number : (s : State) (e : Entry) → posted a b (λ m. m .sequence) (λ x. x .v3) s e ≡ upFrom (sentBetween a b s + 1) (sends e)
+  next-number : (s : State) (e : Entry) → posted a b (λ m. m .sequence) s e ≡ upFrom (sentBetween a b s + 1) (sends e)
   unfolding upFrom
   next-number s e = by-test (isSend a b e) (λ t. rw t) (λ t. rw t)
 
   -- And behind it the others go on.
   goes-on : (named : Rank) (s : State) (r : Record) (es : List Entry) → sound s ≡ true → refusal s r ≡ none
       → numbersSent s (entry named r s ∷ es)
-      ≡ posted a b (λ m. m .sequence) (λ x. x .v3) s (entry named r s) ++ numbersSent (apply named r s .state) es
+      ≡ posted a b (λ m. m .sequence) s (entry named r s) ++ numbersSent (apply named r s .state) es
   goes-on named s r es h p =
       let e = entry named r s in
       let k = sentBetween a b s + 1 in
       let on : sentBetween a b (apply named r s .state) + 1 ≡ k + sends e = omega (arith, step-counted named s r h p) in
       rw (sent-cons a b e es, length-append, next-number s e, on) (sym (upFrom-append k (sends e) (length (sent a b es))))
 
-  numbers-add : Adds a b (λ m. m .sequence) (λ x. x .v3) numbersSent
+  numbers-add : Adds a b (λ m. m .sequence) numbersSent
   unfolding upFrom
   numbers-add = record { none-new = λ s. refl; one-new = goes-on }
 
