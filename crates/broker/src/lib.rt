@@ -1,6 +1,4 @@
 // The message broker: its state, and what a step of its log does. Paper 01 calls it the desk.
-pub mod answer;
 pub mod link;
 pub mod process;
-pub mod record;
 pub mod state;

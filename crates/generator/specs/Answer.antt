@@ -5,7 +5,7 @@ use mathlib.Core.List.{List, [], _++_}
 use Prim.Native.Nat.{ℕ, _*_}
 use lib.Dec.{eqb, ltb}
 use lib.ListN.{length, drop}
-use Rattle.generator.specs.MadeUp.{longest, madeLog, logLeaves}
+use Rattle.generator_record.specs.MadeUp.{longest, madeLog, logLeaves}
 use Rattle.generator.specs.declared.Made.{Made}
 use Rattle.generator.specs.declared.Made.the-variants.{Written, SeedZero, TooShort}
 

@@ -5,11 +5,11 @@ use mathlib.Core.Bool.{false}
 use mathlib.Core.List.{List}
 use Prim.Native.Nat.{ℕ, suc}
 use lib.ListN.{length}
-use Rattle.broker.specs.Checks.{rankRange, hostRange}
-use Rattle.broker.specs.Record.{decode}
+use Rattle.protocol.specs.Checks.{rankRange, hostRange}
+use Rattle.record.specs.Record.{decode}
 use Rattle.broker.specs.State.{State}
-use Rattle.broker.specs.declared.record.Decoded.the-variants.{Whole}
-use Rattle.broker.specs.declared.record.Record.{Record}
+use Rattle.record.specs.declared.Decoded.the-variants.{Whole}
+use Rattle.record.specs.declared.Record.{Record}
 
 -- in whatever state, a record is not refused with 4, "a rank above 15", or 5, "host above 7"
 pub record InRange (r : Record) : Type 0 where

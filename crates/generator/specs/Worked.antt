@@ -1,5 +1,4 @@
 -- Worked examples of the definitions.
 pub mod Answer
-pub mod Draw
 pub mod MadeUp
 pub mod Records

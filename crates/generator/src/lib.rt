@@ -2,14 +2,11 @@
 ghost use mathlib.Core.Path.{_≡_};
 ghost use Prim.Native.Nat.{_*_, _≤_};
 ghost use lib.ListN.{length};
-ghost use Rattle.page.specs.Put.{Put};
+ghost use Rattle.print_page.specs.Put.{Put};
 ghost use Rattle.generator.specs.Answer.{number, outcome, makes};
-ghost use Rattle.generator.specs.MadeUp.{longest, madeLog, logLeaves};
-use crate::record::Standing;
-use crate::record::put_record;
-
-pub mod draw;
-mod record;
+ghost use Rattle.generator_record.specs.MadeUp.{longest, madeLog, logLeaves};
+use generator_record::Standing;
+use generator_record::put_record;
 
 // The word at which the generator stands. A seed is the first one.
 pub struct Word(pub u32);

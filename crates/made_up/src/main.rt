@@ -1,14 +1,12 @@
 // A program that writes a made-up pass: `made_up SEED COUNT` writes the log of COUNT records from SEED to standard output.
 // Paper 02, change 1.
-use crate::argument::Argument;
-use crate::argument::argument_at;
-use crate::pass::write_pass;
 use crate::tell::tell;
 use crate::tell::tell_ending;
 use crate::tell::tell_wrong;
+use made_up_argument::Argument;
+use made_up_argument::argument_at;
+use made_up_pass::write_pass;
 
-mod argument;
-mod pass;
 mod tell;
 
 // The most that a seed may be: it is a word of 32 bits.

@@ -1,7 +1,7 @@
 // What the program says on standard error. Paper 02, change 1, has the two numbers.
-use crate::argument::Fault;
-use crate::pass::Ending;
 use libc::STDERR_FILENO;
+use made_up_argument::Fault;
+use made_up_pass::Ending;
 
 pub(crate) fn tell(words: &[u8]) {
     io::write_all(STDERR_FILENO, words);

@@ -11,19 +11,19 @@ use Rattle.transit.specs.Message.{sameRank, placeOrder, ranks}
 use Rattle.transit.specs.declared.Message.{Message}
 use Rattle.transit.specs.declared.Rank.{Rank}
 use Rattle.transit.specs.declared.Selection.the-variants.{Between}
-use Rattle.broker.specs.Checks.{is}
-use Rattle.broker.specs.Kind
+use Rattle.protocol.specs.Checks.{is}
+use Rattle.record.specs.Kind
 use Rattle.broker.specs.Names.{isMigrating}
 use Rattle.broker.specs.Ranks.{everyRank}
-use Rattle.broker.specs.Record.{decode, firstRank, secondRank}
+use Rattle.record.specs.Record.{decode, firstRank, secondRank}
 use Rattle.broker.specs.State.{State, fresh, status, messages}
-use Rattle.broker.specs.Step.{Outcome, step}
-use Rattle.broker.specs.declared.answer.Answer.{Answer}
-use Rattle.broker.specs.declared.answer.Answer.the-variants.{Accepted, Refused}
-use Rattle.broker.specs.declared.record.Decoded.{Decoded}
-use Rattle.broker.specs.declared.record.Decoded.the-variants.{Whole, Unknown, Cut}
-use Rattle.broker.specs.declared.record.Record.{Record}
-use Rattle.broker.specs.declared.record.Record.the-variants.{Start, Call, Route, Send, Take, Move, Heed, Drain, Land, Part, End, Look}
+use Rattle.protocol.specs.Step.{Outcome, step}
+use Rattle.answer.specs.declared.Answer.{Answer}
+use Rattle.answer.specs.declared.Answer.the-variants.{Accepted, Refused}
+use Rattle.record.specs.declared.Decoded.{Decoded}
+use Rattle.record.specs.declared.Decoded.the-variants.{Whole, Unknown, Cut}
+use Rattle.record.specs.declared.Record.{Record}
+use Rattle.record.specs.declared.Record.the-variants.{Start, Call, Route, Send, Take, Move, Heed, Drain, Land, Part, End, Look}
 
 -- Lists of steps.
 

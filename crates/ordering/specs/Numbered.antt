@@ -9,7 +9,7 @@ use Rattle.transit.specs.Message.{placeOrder, ranks}
 use Rattle.transit.specs.declared.Message.{Message}
 use Rattle.transit.specs.declared.Rank.{Rank}
 use Rattle.transit.specs.declared.Selection.the-variants.{Between}
-use Rattle.broker.specs.Messages.{sentBetween}
+use Rattle.protocol.specs.Messages.{sentBetween}
 use Rattle.broker.specs.State.{State, fresh, messages}
 use Rattle.ordering.specs.Claim.{Reading, Entry, after, accepted, isTake, sent, taken}
 

@@ -6,7 +6,7 @@ use native.Mathlib.Omega.{arith}
 use borrow.Author.Tests.{eqb-false}
 use lib.Dec.{eqb}
 use Rattle.base.specs.Laws.Tests.{by-test}
-use Rattle.printout.specs.Turn.{bufferRoom, farthest}
+use Rattle.print_turn.specs.Turn.{bufferRoom, farthest}
 
 -- no turn begins further on in the input
 abbrev pub last : ℕ

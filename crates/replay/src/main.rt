@@ -6,10 +6,10 @@ ghost use Rattle.replay.specs.Fill.{Filled};
 use libc::STDERR_FILENO;
 use libc::STDIN_FILENO;
 use libc::STDOUT_FILENO;
-use printout::turn::Next;
-use printout::turn::turn;
+use print_turn::Next;
+use print_turn::turn;
 use roster::ROSTER_LENGTH;
-use steps::load::open_fresh;
+use steps_load::open_fresh;
 use transit::CONTENTS_LENGTH;
 use transit::SLOTS_LENGTH;
 

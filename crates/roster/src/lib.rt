@@ -6,12 +6,6 @@ ghost use Rattle.broker.specs.State.{cell};
 use transit::RANKS;
 use transit::Rank;
 
-pub mod awaits;
-pub mod load;
-pub mod numbers;
-pub mod read;
-pub mod write;
-
 pub const ROSTER_LENGTH: usize = 552;
 
 // Five columns, one behind the other: standings (16), calls (16), table entries (256), links (256), numbers drawn (8).

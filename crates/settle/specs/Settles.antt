@@ -3,18 +3,13 @@ use mathlib.Core.Bool.{true}
 use mathlib.Core.List.{List}
 use mathlib.Core.Path.{_≡_}
 use Prim.Native.Nat.{ℕ}
-use Rattle.broker.specs.Done.{Done}
-use Rattle.broker.specs.Sound.{sound}
+use Rattle.protocol.specs.Sound.{sound}
 use Rattle.broker.specs.State.{State}
-use Rattle.broker.specs.Step.{Settlement, apply, settle}
-use Rattle.broker.specs.declared.answer.Answer.{Answer}
-use Rattle.broker.specs.declared.record.Record.{Record}
-use Rattle.checks.specs.Desk.{deskOf, Desk}
-use Rattle.checks.specs.Look.{nameFor}
-
--- what a record does; a look names the oldest sender
-abbrev pub applied : Record → State → Done
-applied r s = apply (nameFor s r) r s
+use Rattle.protocol.specs.Step.{Settlement, settle}
+use Rattle.answer.specs.declared.Answer.{Answer}
+use Rattle.record.specs.declared.Record.{Record}
+use Rattle.desk.specs.Desk.{deskOf, Desk}
+use Rattle.desk.specs.Look.{nameFor}
 
 -- what a record comes to by the definition; a look names the oldest sender
 abbrev pub settled : Record → State → Settlement

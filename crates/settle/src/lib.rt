@@ -1,17 +1,14 @@
 // A record judged, and applied only where it passes. Paper 01, "The step log" and "Where each step is checked".
-ghost use Rattle.checks.specs.Desk.{Desk};
+ghost use Rattle.desk.specs.Desk.{Desk};
 ghost use Rattle.settle.specs.Settles.{Settles};
-use crate::apply::apply;
-use crate::judge::judge;
-use broker::answer::Answer;
-use broker::record::Record;
-use checks::verdict::Verdict;
+use answer::Answer;
+use record::Record;
 use roster::Roster;
+use settle_apply::apply;
+use settle_judge::judge;
 use transit::Contents;
 use transit::Slots;
-
-pub mod apply;
-pub mod judge;
+use verdict::Verdict;
 
 pub fn settle(
     read: Record,

@@ -1,6 +1,2 @@
--- Soundness by the parts of a state that each test looks at, and the law that these tests together are soundness.
+-- The law that the tests of the parts of a state together are soundness.
 pub mod Laws
-pub mod Messages
-pub mod Names
-pub mod Pairs
-pub mod Ranks

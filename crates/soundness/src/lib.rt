@@ -1,17 +1,12 @@
 // The test of soundness: one pass over the ranks, one over the pairs of ranks, one over the messages. Paper 01, "Sound states".
 // Tests of small values are joined by `&` and `|`, which evaluate both sides: that costs less than a jump.
 ghost use mathlib.Core.Path.{_≡_};
-ghost use Rattle.broker.specs.Sound.{sound};
+ghost use Rattle.protocol.specs.Sound.{sound};
 ghost use Rattle.broker.specs.State.{view};
-use crate::messages::messages_sound;
-use crate::pairs::pairs_sound;
-use crate::ranks::ranks_sound;
 use broker::state::Broker;
-
-pub mod messages;
-pub mod names;
-pub mod pairs;
-pub mod ranks;
+use soundness_messages::messages_sound;
+use soundness_pairs::pairs_sound;
+use soundness_ranks::ranks_sound;
 
 // Whether the state is sound. It asks nothing of the state: a spoiled one is told from a sound one.
 pub fn is_sound(broker: Broker) -> bool

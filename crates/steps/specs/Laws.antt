@@ -1,4 +1,3 @@
 -- Laws of the definitions that the contracts cite.
 pub mod InPlace
 pub mod Refused
-pub mod Step

@@ -1,31 +1,21 @@
 // A step of the log: the record at a position is decoded, checked and applied. Paper 01, "The step log" and "Where each step is checked".
-ghost use Rattle.broker.specs.Answer.{NeverEighteen};
+ghost use Rattle.answer.specs.Answer.{NeverEighteen};
 ghost use Rattle.broker.specs.State.{view};
-ghost use Rattle.broker.specs.Step.{Stepped};
+ghost use Rattle.protocol.specs.Step.{Stepped};
 ghost use Rattle.steps.specs.Outcome.{outcome, RefusalKeeps};
-use crate::in_place::step_in_place;
-use crate::load::load;
-use crate::load::unload;
-use broker::answer::Answer;
-use broker::answer::Refusal;
+use answer::Answer;
+use answer::Refusal;
 use broker::state::Broker;
 use roster::ROSTER_LENGTH;
+use steps_in_place::step_in_place;
+use steps_load::load;
+use steps_load::unload;
 use transit::CONTENTS_LENGTH;
 use transit::SLOTS_LENGTH;
-
-pub mod decode;
-pub mod in_place;
-pub mod load;
 
 // All of a step's outcome: the state afterwards, the answer, and the next position.
 pub struct Outcome {
     pub broker: Broker,
-    pub answer: Answer,
-    pub next: usize,
-}
-
-// What a step of a lent state gives: the answer, and the next position.
-pub struct Reply {
     pub answer: Answer,
     pub next: usize,
 }

@@ -1,2 +1,2 @@
 -- What the proofs of several functions cite.
-mod Slots
+pub mod Slots

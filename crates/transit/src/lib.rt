@@ -4,17 +4,8 @@ ghost use mathlib.Core.Path.{_≡_};
 ghost use Rattle.transit.specs.Message.{placeNumber};
 ghost use Rattle.transit.specs.Unread.{unreadOf, nothing};
 
-pub mod append;
-pub mod count;
-pub mod find;
-mod layout;
-pub mod load;
-mod pick;
-pub mod relabel;
-pub mod remove;
-pub mod sent;
-mod tail;
-mod walk;
+pub mod layout;
+pub mod pick;
 
 // The number by which processes are named at the upper of the two levels of name.
 pub struct Rank(pub u8);

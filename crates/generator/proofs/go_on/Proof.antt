@@ -4,9 +4,9 @@ use Prim.Native.Nat.{_*_, _≤_}
 use native.Mathlib.Omega.{arith}
 use borrow.Author.Needs.{needs}
 use lib.ListN.{length}
-use Rattle.page.specs.Laws.Put.{at-front}
+use Rattle.print_page.specs.Laws.Put.{at-front}
 use Rattle.generator.specs.Laws.Answer.{too-short, is-written}
-use Rattle.generator.specs.MadeUp.{longest}
+use Rattle.generator_record.specs.MadeUp.{longest}
 use Rattle.generator.proofs.go_on.Statement.{statement}
 use Rattle.generator.proofs.go_on.Tie as tie
 

@@ -4,10 +4,10 @@ use mathlib.Core.Path.{_≡_, refl, _∙_}
 use Prim.Native.Nat.{_*_, _-_, _≤_}
 use native.Mathlib.Omega.{arith}
 use borrow.Author.Needs.{needs}
-use Rattle.page.specs.Put.{Put}
-use Rattle.page.specs.Laws.Put.{_then_, nothing, as-text, at-most}
+use Rattle.print_page.specs.Put.{Put}
+use Rattle.print_page.specs.Laws.Put.{_then_, nothing, as-text, at-most}
 use Rattle.generator.specs.Laws.MadeUp.{one-more, one-more-leaves}
-use Rattle.generator.specs.MadeUp.{longest, madeLog, logLeaves}
+use Rattle.generator_record.specs.MadeUp.{longest, madeLog, logLeaves}
 use Rattle.generator.proofs.put_records.Statement.{statement}
 use Rattle.generator.proofs.put_records.Tie as tie
 

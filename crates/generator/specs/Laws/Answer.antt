@@ -10,7 +10,7 @@ use lib.Seq.{take-append-seam}
 use Rattle.base.specs.Laws.Tests.{by-equal, by-less}
 use Rattle.generator.specs.Answer.{Outcome, refuses, writes, makes}
 use Rattle.generator.specs.Laws.MadeUp.{log-goes-on}
-use Rattle.generator.specs.MadeUp.{longest, madeLog, logLeaves}
+use Rattle.generator_record.specs.MadeUp.{longest, madeLog, logLeaves}
 
 module _ (word n : ℕ) (buffer : List ℕ) (some : word ≢ 0) where
   pub too-short : length buffer < longest * n → makes word n buffer ≡ refuses 27 buffer

@@ -9,10 +9,10 @@ use lib.Dec.{leb}
 use lib.ListN.{length, length-append, List·getD-map}
 use Rattle.base.specs.Laws.Below.{allBelow-at}
 use Rattle.base.specs.Laws.Tests.{by-equal}
-use Rattle.broker.specs.Kind.{Field, rankByte, hostByte, valueBytes, fieldLength, fieldsLength, bodies, fieldsOf, bodyLength}
-use Rattle.generator.specs.Draw.{words, draw}
-use Rattle.generator.specs.Laws.Draw.{draw-word, draw-zero}
-use Rattle.generator.specs.MadeUp.{
+use Rattle.record.specs.Kind.{Field, rankByte, hostByte, valueBytes, fieldLength, fieldsLength, bodies, fieldsOf, bodyLength}
+use Rattle.generator_draw.specs.Draw.{words, draw}
+use Rattle.generator_draw.specs.Laws.Draw.{draw-word, draw-zero}
+use Rattle.generator_record.specs.MadeUp.{
   longest,
   drawn,
   body,

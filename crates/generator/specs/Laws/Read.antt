@@ -13,16 +13,16 @@ use lib.Seq.{getD-append-seam, getD-append-add}
 use Rattle.base.specs.Laws.Tests.{both, chosen}
 use Rattle.base.specs.Lists.{every}
 use Rattle.transit.specs.Message.{ranks, rank, isRank}
-use Rattle.broker.specs.Checks.{rankRange, hostRange}
-use Rattle.broker.specs.Kind.{fieldsOf, bodyLength}
-use Rattle.broker.specs.Laws.Record.{whole, kind-between}
+use Rattle.protocol.specs.Checks.{rankRange, hostRange}
+use Rattle.record.specs.Kind.{fieldsOf, bodyLength}
+use Rattle.record.specs.Laws.Record.{whole, kind-between}
 use Rattle.broker.specs.Names.{hosts}
-use Rattle.broker.specs.Record.{decode, recordOf, firstRank, secondRank, namedHost}
-use Rattle.broker.specs.declared.record.Decoded.the-variants.{Whole}
-use Rattle.broker.specs.declared.record.Record.{Record}
-use Rattle.generator.specs.Draw.{draw}
+use Rattle.record.specs.Record.{decode, recordOf, firstRank, secondRank, namedHost}
+use Rattle.record.specs.declared.Decoded.the-variants.{Whole}
+use Rattle.record.specs.declared.Record.{Record}
+use Rattle.generator_draw.specs.Draw.{draw}
 use Rattle.generator.specs.Laws.MadeUp.{record-length}
-use Rattle.generator.specs.MadeUp.{kinds, body, kindDrawn, madeRecord, recordLeaves, madeLog}
+use Rattle.generator_record.specs.MadeUp.{kinds, body, kindDrawn, madeRecord, recordLeaves, madeLog}
 use Rattle.generator.specs.Records.{InRange, Holds, ends, reads}
 
 -- A record is in range whose first rank, second rank and host are.

@@ -2,10 +2,10 @@
 use mathlib.Core.Path.{_≡_, refl}
 use mathlib.Core.List.{[], _∷_}
 use Prim.Native.Nat.{_^_, _-_}
-use Rattle.broker.specs.Kind
+use Rattle.record.specs.Kind
 use Rattle.generator.specs.Answer.{refuses, makes}
-use Rattle.generator.specs.Draw.{draw}
-use Rattle.generator.specs.MadeUp.{madeRecord, recordLeaves, madeLog, logLeaves}
+use Rattle.generator_draw.specs.Draw.{draw}
+use Rattle.generator_record.specs.MadeUp.{madeRecord, recordLeaves, madeLog, logLeaves}
 
 -- three records from seed 1 into a buffer of 21 bytes: 8 are written, and the others stay
 pub three-records :

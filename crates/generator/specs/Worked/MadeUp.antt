@@ -3,12 +3,12 @@ use mathlib.Core.Path.{_≡_, refl}
 use mathlib.Core.List.{List, [], _∷_, _++_}
 use Prim.Native.Nat.{ℕ}
 use Rattle.transit.specs.Message.{rank}
-use Rattle.broker.specs.Kind
-use Rattle.broker.specs.Record.{decode}
-use Rattle.broker.specs.declared.record.Decoded.the-variants.{Whole}
-use Rattle.broker.specs.declared.record.Record.the-variants.{Send}
-use Rattle.generator.specs.Draw.{draw}
-use Rattle.generator.specs.MadeUp.{madeRecord, recordLeaves, madeLog, logLeaves}
+use Rattle.record.specs.Kind
+use Rattle.record.specs.Record.{decode}
+use Rattle.record.specs.declared.Decoded.the-variants.{Whole}
+use Rattle.record.specs.declared.Record.the-variants.{Send}
+use Rattle.generator_draw.specs.Draw.{draw}
+use Rattle.generator_record.specs.MadeUp.{madeRecord, recordLeaves, madeLog, logLeaves}
 
 -- the records of a log, one behind the other
 abbrev joined : List (List ℕ) → List ℕ

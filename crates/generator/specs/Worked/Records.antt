@@ -5,11 +5,11 @@ use mathlib.Core.Path.{_≡_}
 use Prim.Native.Nat.{ℕ}
 use native.Mathlib.Omega.{arith}
 use Rattle.transit.specs.Message.{rank}
-use Rattle.broker.specs.Checks.{rankRange, hostRange}
-use Rattle.broker.specs.Kind
-use Rattle.broker.specs.Record.{decode}
+use Rattle.protocol.specs.Checks.{rankRange, hostRange}
+use Rattle.record.specs.Kind
+use Rattle.record.specs.Record.{decode}
 use Rattle.broker.specs.State.{fresh}
-use Rattle.broker.specs.declared.record.Record.the-variants.{Start, Call, Look}
+use Rattle.record.specs.declared.Record.the-variants.{Start, Call, Look}
 use Rattle.generator.specs.Records.{InRange, Holds, ends, reads}
 
 -- 2: a kind that is none

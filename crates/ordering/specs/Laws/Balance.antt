@@ -15,18 +15,18 @@ use Rattle.transit.specs.declared.Message.{Message}
 use Rattle.transit.specs.declared.Place.the-variants.{EndList}
 use Rattle.transit.specs.declared.Rank.{Rank}
 use Rattle.transit.specs.declared.Selection.the-variants.{Between}
-use Rattle.broker.specs.Checks.{refusal}
-use Rattle.broker.specs.Laws.Accepted.{TakeFits, take-fits}
-use Rattle.broker.specs.Laws.Core.{Core, core, letter, coreStep, eachBetween, unread-each}
-use Rattle.broker.specs.Laws.CoreStep.{core-step}
-use Rattle.broker.specs.Laws.State.{sameRank-eq, sameRank-self}
-use Rattle.broker.specs.Record.{decode}
-use Rattle.broker.specs.Sound.{sound}
+use Rattle.protocol.specs.Checks.{refusal}
+use Rattle.protocol.specs.Laws.Accepted.{TakeFits, take-fits}
+use Rattle.protocol.specs.Laws.Core.{Core, core, letter, coreStep, eachBetween, unread-each}
+use Rattle.protocol.specs.Laws.CoreStep.{core-step}
+use Rattle.protocol.specs.Laws.State.{sameRank-eq, sameRank-self}
+use Rattle.record.specs.Record.{decode}
+use Rattle.protocol.specs.Sound.{sound}
 use Rattle.broker.specs.State.{State, messages}
-use Rattle.broker.specs.Step.{apply}
-use Rattle.broker.specs.declared.record.Decoded.the-variants.{Whole}
-use Rattle.broker.specs.declared.record.Record.{Record}
-use Rattle.broker.specs.declared.record.Record.the-variants.{Start, Call, Route, Send, Take, Move, Heed, Drain, Land, Part, End, Look}
+use Rattle.protocol.specs.Step.{apply}
+use Rattle.record.specs.declared.Decoded.the-variants.{Whole}
+use Rattle.record.specs.declared.Record.{Record}
+use Rattle.record.specs.declared.Record.the-variants.{Start, Call, Route, Send, Take, Move, Heed, Drain, Land, Part, End, Look}
 use Rattle.ordering.specs.Claim.{Reading, Entry, after, accepted, isTake, sent}
 use Rattle.ordering.specs.Laws.Runs.{entry, along}
 

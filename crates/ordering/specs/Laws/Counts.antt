@@ -3,8 +3,8 @@ use mathlib.Core.List.{List}
 use Prim.Native.Nat.{_≤_}
 use Rattle.transit.specs.Unread.{limit}
 use Rattle.transit.specs.declared.Rank.{Rank}
-use Rattle.broker.specs.Laws.Counts.{sound-count-limit}
-use Rattle.broker.specs.Messages.{unreadBetween}
+use Rattle.protocol.specs.Laws.Counts.{sound-count-limit}
+use Rattle.protocol.specs.Messages.{unreadBetween}
 use Rattle.broker.specs.State.{fresh}
 use Rattle.ordering.specs.Claim.{Reading, after}
 use Rattle.ordering.specs.Laws.Runs.{fresh-sound, sound-after}

@@ -2,9 +2,9 @@
 use mathlib.Core.Path.{refl, sym, ap, _∙_}
 use mathlib.Core.List.{List, [], _∷_, _++_, map-id}
 use Prim.Native.Nat.{ℕ}
-use Rattle.broker.specs.Laws.CoreStep.{take-value}
+use Rattle.protocol.specs.Laws.CoreStep.{take-value}
 use Rattle.broker.specs.State.{fresh}
-use Rattle.broker.specs.Step.{apply}
+use Rattle.protocol.specs.Step.{apply}
 use Rattle.ordering.specs.Claim.{sent, FirstHalf}
 use Rattle.ordering.specs.Laws.Balance.{balances}
 use Rattle.ordering.specs.Laws.Runs.{fresh-sound, entry, sent-cons}

@@ -7,16 +7,16 @@ use mathlib.Core.Option.{Option, none}
 use Prim.Native.Nat.{ℕ}
 use Rattle.base.specs.Laws.Tests.{both}
 use Rattle.transit.specs.declared.Rank.{Rank}
-use Rattle.broker.specs.Checks.{refusal}
-use Rattle.broker.specs.Laws.Core.{Core, core}
-use Rattle.broker.specs.Laws.Quiet.{Quiet}
-use Rattle.broker.specs.Laws.Step.{step-accepted}
-use Rattle.broker.specs.Record.{decode}
-use Rattle.broker.specs.Sound.{sound}
+use Rattle.protocol.specs.Checks.{refusal}
+use Rattle.protocol.specs.Laws.Core.{Core, core}
+use Rattle.protocol.specs.Laws.Quiet.{Quiet}
+use Rattle.protocol.specs.Laws.Step.{step-accepted}
+use Rattle.record.specs.Record.{decode}
+use Rattle.protocol.specs.Sound.{sound}
 use Rattle.broker.specs.State.{State}
-use Rattle.broker.specs.Step.{apply}
-use Rattle.broker.specs.declared.record.Decoded.the-variants.{Whole}
-use Rattle.broker.specs.declared.record.Record.{Record}
+use Rattle.protocol.specs.Step.{apply}
+use Rattle.record.specs.declared.Decoded.the-variants.{Whole}
+use Rattle.record.specs.declared.Record.{Record}
 use Rattle.ordering.specs.Claim.{
   Reading,
   Entry,

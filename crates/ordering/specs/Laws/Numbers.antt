@@ -12,18 +12,18 @@ use Rattle.base.specs.Lists.{upFrom}
 use Rattle.transit.specs.Message.{sameRank, ranks, cells}
 use Rattle.transit.specs.Unread.{sentAt}
 use Rattle.transit.specs.declared.Rank.{Rank}
-use Rattle.broker.specs.Checks.{refusal}
-use Rattle.broker.specs.Laws.Accepted.{send-fits}
-use Rattle.broker.specs.Laws.Core.{Core, core, coreStep}
-use Rattle.broker.specs.Laws.CoreStep.{core-step, take-sequence}
-use Rattle.broker.specs.Laws.Sound.{facts}
-use Rattle.broker.specs.Laws.State.{sameRank-eq, cell-below, sent-after}
-use Rattle.broker.specs.Messages.{sentBetween}
-use Rattle.broker.specs.Sound.{sound}
+use Rattle.protocol.specs.Checks.{refusal}
+use Rattle.protocol.specs.Laws.Accepted.{send-fits}
+use Rattle.protocol.specs.Laws.Core.{Core, core, coreStep}
+use Rattle.protocol.specs.Laws.CoreStep.{core-step, take-sequence}
+use Rattle.protocol.specs.Laws.Sound.{facts}
+use Rattle.protocol.specs.Laws.State.{sameRank-eq, cell-below, sent-after}
+use Rattle.protocol.specs.Messages.{sentBetween}
+use Rattle.protocol.specs.Sound.{sound}
 use Rattle.broker.specs.State.{State, fresh, cell}
-use Rattle.broker.specs.Step.{apply}
-use Rattle.broker.specs.declared.record.Record.{Record}
-use Rattle.broker.specs.declared.record.Record.the-variants.{Start, Call, Route, Send, Take, Move, Heed, Drain, Land, Part, End, Look}
+use Rattle.protocol.specs.Step.{apply}
+use Rattle.record.specs.declared.Record.{Record}
+use Rattle.record.specs.declared.Record.the-variants.{Start, Call, Route, Send, Take, Move, Heed, Drain, Land, Part, End, Look}
 use Rattle.ordering.specs.Claim.{Reading, Entry, after, accepted, isSend, sent, taken}
 use Rattle.ordering.specs.Laws.Balance.{posted, Adds, balances}
 use Rattle.ordering.specs.Laws.Runs.{fresh-sound, entry, sent-cons, along}

@@ -7,13 +7,13 @@ use Prim.Native.Nat.{ℕ, zero, suc}
 use lib.ListN.{getD, replicate}
 use Rattle.transit.specs.Message.{ranks}
 use Rattle.transit.specs.declared.Rank.{Rank}
-use Rattle.broker.specs.Laws.Migrating.{openAfter, migrating-step}
+use Rattle.protocol.specs.Laws.Migrating.{openAfter, migrating-step}
 use Rattle.broker.specs.Names.{isMigrating}
 use Rattle.broker.specs.Ranks.{everyRank}
-use Rattle.broker.specs.Sound.{sound}
+use Rattle.protocol.specs.Sound.{sound}
 use Rattle.broker.specs.State.{State, idle, fresh, status}
 use Rattle.broker.specs.declared.process.Process.{Process}
-use Rattle.broker.specs.declared.record.Record.{Record}
+use Rattle.record.specs.declared.Record.{Record}
 use Rattle.ordering.specs.Claim.{Reading, after, accepted, records, noMoveOpen}
 use Rattle.ordering.specs.Laws.Runs.{fresh-sound, along}
 

@@ -9,22 +9,22 @@ use borrow.Author.Tests.{not-true}
 use lib.ListN.{getD-replicate}
 use Rattle.base.specs.Laws.Tests.{both-left, both-right}
 use Rattle.transit.specs.Message.{ranks, cells}
-use Rattle.broker.specs.Checks.{refusal}
-use Rattle.broker.specs.Laws.Alike.{settled-unless-migrating, status-alike, same-standings}
-use Rattle.broker.specs.Laws.Core.{core, coreStep, valuesBetween, unread-each}
-use Rattle.broker.specs.Laws.CoreStep.{core-step}
-use Rattle.broker.specs.Laws.Quiet.{Quiet}
-use Rattle.broker.specs.Laws.Ranks.{everyRank-at}
-use Rattle.broker.specs.Laws.State.{cell-below}
+use Rattle.protocol.specs.Checks.{refusal}
+use Rattle.protocol.specs.Laws.Alike.{settled-unless-migrating, status-alike, same-standings}
+use Rattle.protocol.specs.Laws.Core.{core, coreStep, valuesBetween, unread-each}
+use Rattle.protocol.specs.Laws.CoreStep.{core-step}
+use Rattle.protocol.specs.Laws.Quiet.{Quiet}
+use Rattle.protocol.specs.Laws.Ranks.{everyRank-at}
+use Rattle.protocol.specs.Laws.State.{cell-below}
 use Rattle.broker.specs.Names.{isMigrating}
-use Rattle.broker.specs.Record.{decode}
-use Rattle.broker.specs.Sound.{sound}
+use Rattle.record.specs.Record.{decode}
+use Rattle.protocol.specs.Sound.{sound}
 use Rattle.broker.specs.State.{State, idle, apart, cell, fresh, status}
-use Rattle.broker.specs.Step.{apply}
+use Rattle.protocol.specs.Step.{apply}
 use Rattle.broker.specs.declared.process.Process.{Process}
-use Rattle.broker.specs.declared.record.Decoded.the-variants.{Whole}
-use Rattle.broker.specs.declared.record.Record.{Record}
-use Rattle.broker.specs.declared.record.Record.the-variants.{Start, Call, Route, Send, Take, Move, Heed, Drain, Land, Part, End, Look}
+use Rattle.record.specs.declared.Decoded.the-variants.{Whole}
+use Rattle.record.specs.declared.Record.{Record}
+use Rattle.record.specs.declared.Record.the-variants.{Start, Call, Route, Send, Take, Move, Heed, Drain, Land, Part, End, Look}
 use Rattle.ordering.specs.Claim.{Reading, isBytes, areBytes, Entry, after, accepted, taken, fiveKinds, SecondHalf}
 use Rattle.ordering.specs.Laws.Following.{Following, nothing-follows, follows-as}
 use Rattle.ordering.specs.Laws.Runs.{fresh-sound, entry, taken-cons, five-cons, along-readings, sound-after}

@@ -7,25 +7,25 @@ use mathlib.Core.Option.{none}
 use Prim.Native.Nat.{ℕ}
 use Rattle.base.specs.Laws.Tests.{by-test}
 use Rattle.transit.specs.declared.Rank.{Rank}
-use Rattle.broker.specs.Checks.{refusal}
-use Rattle.broker.specs.Kind
-use Rattle.broker.specs.Laws.Accepted.{Two, send-fits}
-use Rattle.broker.specs.Laws.Alike.{call-before, route-before, send-again, part-behind, receiver-runs, status-alike, same-standings}
-use Rattle.broker.specs.Laws.Core.{Core, core, coreStep}
-use Rattle.broker.specs.Laws.CoreStep.{core-step}
-use Rattle.broker.specs.Laws.Kept.{sound-kept}
-use Rattle.broker.specs.Laws.Quiet.{Calling, Joined, Quiet, sameVmid-self, call-calm, route-corrects, route-joins, send-calm, part-calm}
+use Rattle.protocol.specs.Checks.{refusal}
+use Rattle.record.specs.Kind
+use Rattle.protocol.specs.Laws.Accepted.{Two, send-fits}
+use Rattle.protocol.specs.Laws.Alike.{call-before, route-before, send-again, part-behind, receiver-runs, status-alike, same-standings}
+use Rattle.protocol.specs.Laws.Core.{Core, core, coreStep}
+use Rattle.protocol.specs.Laws.CoreStep.{core-step}
+use Rattle.protocol.specs.Laws.Kept.{sound-kept}
+use Rattle.protocol.specs.Laws.Quiet.{Calling, Joined, Quiet, sameVmid-self, call-calm, route-corrects, route-joins, send-calm, part-calm}
 use Rattle.broker.specs.Names.{sameVmid, endpoint, isEnded}
 use Rattle.transit.specs.Message.{rank}
-use Rattle.broker.specs.Record.{decode}
-use Rattle.broker.specs.Sound.{sound}
+use Rattle.record.specs.Record.{decode}
+use Rattle.protocol.specs.Sound.{sound}
 use Rattle.broker.specs.State.{State, status, location}
-use Rattle.broker.specs.Step.{apply}
+use Rattle.protocol.specs.Step.{apply}
 use Rattle.broker.specs.declared.process.Status.{Status}
 use Rattle.broker.specs.declared.process.Vmid.{Vmid}
-use Rattle.broker.specs.declared.record.Decoded.the-variants.{Whole}
-use Rattle.broker.specs.declared.record.Record.{Record}
-use Rattle.broker.specs.declared.record.Record.the-variants.{Call, Route, Send, Part}
+use Rattle.record.specs.declared.Decoded.the-variants.{Whole}
+use Rattle.record.specs.declared.Record.{Record}
+use Rattle.record.specs.declared.Record.the-variants.{Call, Route, Send, Part}
 use Rattle.ordering.specs.Claim.{Reading, isByte, isBytes}
 use Rattle.ordering.specs.Laws.Following.{Following, step-follows}
 use Rattle.ordering.specs.Laws.Stands.{Standing, ofTwo, two-is-bytes, quiet-after}

@@ -9,23 +9,23 @@ use native.Mathlib.Omega.{arith}
 use borrow.Author.Tests.{lt-ltb}
 use Rattle.base.specs.Laws.Tests.{both}
 use Rattle.transit.specs.declared.Rank.{Rank}
-use Rattle.broker.specs.Checks.{refusal}
-use Rattle.broker.specs.Kind
-use Rattle.broker.specs.Laws.Accepted.{start-fits, take-fits, move-fits, end-fits}
-use Rattle.broker.specs.Laws.Alike.{start-again, take-again, move-again, end-again, land-after}
-use Rattle.broker.specs.Laws.Core.{Core, core, coreStep, valuesBetween, sequencesBetween}
-use Rattle.broker.specs.Laws.CoreStep.{core-step, take-value, take-sequence}
-use Rattle.broker.specs.Laws.Kept.{sound-kept}
-use Rattle.broker.specs.Laws.Quiet.{AllQuiet, Moving, Quiet, start-calm, take-calm, end-calm, move-calm, land-calm}
-use Rattle.broker.specs.Laws.State.{sameRank-self}
+use Rattle.protocol.specs.Checks.{refusal}
+use Rattle.record.specs.Kind
+use Rattle.protocol.specs.Laws.Accepted.{start-fits, take-fits, move-fits, end-fits}
+use Rattle.protocol.specs.Laws.Alike.{start-again, take-again, move-again, end-again, land-after}
+use Rattle.protocol.specs.Laws.Core.{Core, core, coreStep, valuesBetween, sequencesBetween}
+use Rattle.protocol.specs.Laws.CoreStep.{core-step, take-value, take-sequence}
+use Rattle.protocol.specs.Laws.Kept.{sound-kept}
+use Rattle.protocol.specs.Laws.Quiet.{AllQuiet, Moving, Quiet, start-calm, take-calm, end-calm, move-calm, land-calm}
+use Rattle.protocol.specs.Laws.State.{sameRank-self}
 use Rattle.transit.specs.Message.{ranks, rank}
-use Rattle.broker.specs.Record.{decode}
-use Rattle.broker.specs.Sound.{sound}
+use Rattle.record.specs.Record.{decode}
+use Rattle.protocol.specs.Sound.{sound}
 use Rattle.broker.specs.State.{State}
-use Rattle.broker.specs.Step.{apply}
-use Rattle.broker.specs.declared.record.Decoded.the-variants.{Whole}
-use Rattle.broker.specs.declared.record.Record.{Record}
-use Rattle.broker.specs.declared.record.Record.the-variants.{Start, Take, Move, Land, End}
+use Rattle.protocol.specs.Step.{apply}
+use Rattle.record.specs.declared.Decoded.the-variants.{Whole}
+use Rattle.record.specs.declared.Record.{Record}
+use Rattle.record.specs.declared.Record.the-variants.{Start, Take, Move, Land, End}
 use Rattle.ordering.specs.Claim.{Reading, isByte, isBytes, taken, fiveKinds}
 use Rattle.ordering.specs.Laws.Following.{Following, Leads, step-follows, follows-as}
 use Rattle.ordering.specs.Laws.Runs.{entry}

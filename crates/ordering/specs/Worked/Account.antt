@@ -2,12 +2,12 @@
 use mathlib.Core.Path.{_≡_, refl, ap, _∙_}
 use mathlib.Core.Bool.{Bool, true, _&&_}
 use mathlib.Core.List.{List, [], _∷_, _++_}
-use Rattle.broker.specs.Laws.Opened.{opened}
-use Rattle.broker.specs.Laws.Step.{step-of-sound, step-keeps-sound}
-use Rattle.broker.specs.Record.{decode}
-use Rattle.broker.specs.Sound.{sound}
+use Rattle.protocol.specs.Laws.Opened.{opened}
+use Rattle.protocol.specs.Laws.Step.{step-of-sound, step-keeps-sound}
+use Rattle.record.specs.Record.{decode}
+use Rattle.protocol.specs.Sound.{sound}
 use Rattle.broker.specs.State.{State, fresh}
-use Rattle.broker.specs.Step.{Outcome, stepSound}
+use Rattle.protocol.specs.Step.{Outcome, stepSound}
 use Rattle.ordering.specs.Claim.{Reading, Entry, stepAt, after, isAccepted, everyAccepted, entryOf, accepted}
 use Rattle.ordering.specs.Laws.Runs.{fresh-sound}
 

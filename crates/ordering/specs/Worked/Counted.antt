@@ -10,17 +10,17 @@ use Rattle.transit.specs.Unread.{counted}
 use Rattle.transit.specs.declared.Message.{Message}
 use Rattle.transit.specs.declared.Place.{Place}
 use Rattle.transit.specs.declared.Place.the-variants.{SourceList, SourceChannel, EndList, Channel}
-use Rattle.broker.specs.Kind
+use Rattle.record.specs.Kind
 use Rattle.broker.specs.Names.{vmid}
 use Rattle.broker.specs.Ranks.{everyRank}
-use Rattle.broker.specs.Record.{decode}
+use Rattle.record.specs.Record.{decode}
 use Rattle.broker.specs.State.{State, idle, fresh, withStatus, withUnread}
-use Rattle.broker.specs.declared.answer.Answer.the-variants.{Accepted, Refused}
-use Rattle.broker.specs.declared.answer.Refusal.the-variants.{NotConnected}
+use Rattle.answer.specs.declared.Answer.the-variants.{Accepted, Refused}
+use Rattle.answer.specs.declared.Refusal.the-variants.{NotConnected}
 use Rattle.broker.specs.declared.process.Status.the-variants.{Running, Migrating, Ended}
-use Rattle.broker.specs.declared.record.Decoded.the-variants.{Whole, Unknown, Cut}
-use Rattle.broker.specs.declared.record.Record.{Record}
-use Rattle.broker.specs.declared.record.Record.the-variants.{Start, Call, Route, Send, Take, Look}
+use Rattle.record.specs.declared.Decoded.the-variants.{Whole, Unknown, Cut}
+use Rattle.record.specs.declared.Record.{Record}
+use Rattle.record.specs.declared.Record.the-variants.{Start, Call, Route, Send, Take, Look}
 use Rattle.ordering.specs.Claim.{
   Reading,
   Entry,

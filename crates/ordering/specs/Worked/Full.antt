@@ -14,18 +14,18 @@ use Rattle.transit.specs.Unread.{Unread, AfterAppend, limit, nothing}
 use Rattle.transit.specs.declared.Message.{Message}
 use Rattle.transit.specs.declared.Place.the-variants.{Channel}
 use Rattle.transit.specs.declared.Rank.{Rank}
-use Rattle.broker.specs.Laws.Accepted.{SendFits}
-use Rattle.broker.specs.Laws.Accepts.{send-accepted}
-use Rattle.broker.specs.Laws.Opened.{opened}
-use Rattle.broker.specs.Laws.Step.{step-accepted, step-of-sound, step-keeps-sound}
-use Rattle.broker.specs.Messages.{send, unreadBetween}
-use Rattle.broker.specs.Record.{decode}
-use Rattle.broker.specs.Sound.{sound}
+use Rattle.protocol.specs.Laws.Accepted.{SendFits}
+use Rattle.protocol.specs.Laws.Accepts.{send-accepted}
+use Rattle.protocol.specs.Laws.Opened.{opened}
+use Rattle.protocol.specs.Laws.Step.{step-accepted, step-of-sound, step-keeps-sound}
+use Rattle.protocol.specs.Messages.{send, unreadBetween}
+use Rattle.record.specs.Record.{decode}
+use Rattle.protocol.specs.Sound.{sound}
 use Rattle.broker.specs.State.{State, fresh, withUnread}
-use Rattle.broker.specs.Step.{Outcome, apply}
-use Rattle.broker.specs.declared.answer.Answer.the-variants.{Refused}
-use Rattle.broker.specs.declared.answer.Refusal.the-variants.{Full}
-use Rattle.broker.specs.declared.record.Record.the-variants.{Start, Call, Route, Send, Move, Land, Part}
+use Rattle.protocol.specs.Step.{Outcome, apply}
+use Rattle.answer.specs.declared.Answer.the-variants.{Refused}
+use Rattle.answer.specs.declared.Refusal.the-variants.{Full}
+use Rattle.record.specs.declared.Record.the-variants.{Start, Call, Route, Send, Move, Land, Part}
 use Rattle.ordering.specs.Claim.{Reading, Entry, stepAt, after, accepted}
 use Rattle.ordering.specs.Laws.Counts.{count-never-passes}
 use Rattle.ordering.specs.Laws.Runs.{fresh-sound, sound-after}

@@ -5,12 +5,12 @@ use mathlib.Core.List.{List, [], _∷_, map}
 use Prim.Native.Nat.{ℕ}
 use lib.ListN.{replicate}
 use Rattle.transit.specs.declared.Place.the-variants.{EndList, Channel}
-use Rattle.broker.specs.Kind
+use Rattle.record.specs.Kind
 use Rattle.broker.specs.Names.{vmid}
 use Rattle.transit.specs.Message.{rank}
 use Rattle.broker.specs.State.{idle}
 use Rattle.broker.specs.declared.process.Status.the-variants.{Running}
-use Rattle.broker.specs.declared.record.Record.the-variants.{Start, Call, Route, Send, Take, Move, Heed, Drain, Land}
+use Rattle.record.specs.declared.Record.the-variants.{Start, Call, Route, Send, Take, Move, Heed, Drain, Land}
 use Rattle.ordering.specs.Worked.Account.{computed, from-fresh}
 use Rattle.ordering.specs.Claim.{Reading}
 use Rattle.ordering.specs.Worked.Result.{Result, result, brief, Balance, balance, did, process}

@@ -10,11 +10,11 @@ use Rattle.transit.specs.declared.Message.{Message}
 use Rattle.transit.specs.declared.Place.{Place}
 use Rattle.transit.specs.declared.Place.the-variants.{SourceList, SourceChannel, EndList}
 use Rattle.transit.specs.declared.Rank.{Rank}
-use Rattle.broker.specs.Messages.{sentBetween}
+use Rattle.protocol.specs.Messages.{sentBetween}
 use Rattle.broker.specs.Names.{vmid}
 use Rattle.broker.specs.State.{idle, fresh}
 use Rattle.broker.specs.declared.process.Status.the-variants.{Running, Migrating}
-use Rattle.broker.specs.declared.record.Record.the-variants.{Start, Call, Route, Send, Take, Move, Drain, Land, Part}
+use Rattle.record.specs.declared.Record.the-variants.{Start, Call, Route, Send, Take, Move, Drain, Land, Part}
 use Rattle.ordering.specs.Claim.{Reading, Entry, after, accepted}
 use Rattle.ordering.specs.Numbered.{numbersTaken, numbersUnread}
 use Rattle.ordering.specs.Worked.Account.{Account, computed, from-fresh}

@@ -12,7 +12,7 @@ use Rattle.broker.specs.Names.{vmid}
 use Rattle.broker.specs.State.{idle, fresh}
 use Rattle.broker.specs.declared.process.Status.the-variants.{Running}
 use Rattle.broker.specs.declared.process.Vmid.{Vmid}
-use Rattle.broker.specs.declared.record.Record.the-variants.{Start, Call, Route, Send, Take, Move, Drain, Land, Part}
+use Rattle.record.specs.declared.Record.the-variants.{Start, Call, Route, Send, Take, Move, Drain, Land, Part}
 use Rattle.ordering.specs.Claim.{Entry, everyAccepted, areBytes, records, unbroken, SecondList}
 use Rattle.ordering.specs.Worked.Account.{Account, computed, from-fresh}
 use Rattle.ordering.specs.Worked.Result.{Result, brief, result, Balance, balance, second, did, process, readings}

@@ -9,7 +9,7 @@ use Rattle.transit.specs.declared.Place.the-variants.{SourceChannel, EndList, C
 use Rattle.broker.specs.Names.{vmid}
 use Rattle.broker.specs.State.{idle, fresh}
 use Rattle.broker.specs.declared.process.Status.the-variants.{Running, Migrating}
-use Rattle.broker.specs.declared.record.Record.the-variants.{Start, Call, Route, Send, Take, Move, Heed, Drain, Land, Part}
+use Rattle.record.specs.declared.Record.the-variants.{Start, Call, Route, Send, Take, Move, Heed, Drain, Land, Part}
 use Rattle.ordering.specs.Claim.{Entry, everyAccepted, SecondList}
 use Rattle.ordering.specs.Worked.Account.{Account, computed, from-fresh}
 use Rattle.ordering.specs.Worked.Overlapping.{overlapping, apart, Overlaps, overlaps}

@@ -12,15 +12,15 @@ use Rattle.transit.specs.Message.{sameRank, placeOrder, rank}
 use Rattle.transit.specs.declared.Message.{Message}
 use Rattle.transit.specs.declared.Rank.{Rank}
 use Rattle.transit.specs.declared.Selection.the-variants.{Between}
-use Rattle.broker.specs.Checks.{is}
-use Rattle.broker.specs.Kind
-use Rattle.broker.specs.Record.{firstRank, secondRank, bytesOf}
+use Rattle.protocol.specs.Checks.{is}
+use Rattle.record.specs.Kind
+use Rattle.record.specs.Record.{firstRank, secondRank, bytesOf}
 use Rattle.broker.specs.State.{idle, fresh, messages}
 use Rattle.broker.specs.declared.process.Process.{Process}
 use Rattle.broker.specs.declared.process.Request.the-variants.{Absent}
 use Rattle.broker.specs.declared.process.Status.{Status}
-use Rattle.broker.specs.declared.record.Record.{Record}
-use Rattle.broker.specs.declared.record.Record.the-variants.{Start, Call, Route, Send, Take, Move, Heed, Drain, Land, Part, End, Look}
+use Rattle.record.specs.declared.Record.{Record}
+use Rattle.record.specs.declared.Record.the-variants.{Start, Call, Route, Send, Take, Move, Heed, Drain, Land, Part, End, Look}
 use Rattle.ordering.specs.Worked.Account.{Account, account}
 use Rattle.ordering.specs.Claim.{
   Reading,

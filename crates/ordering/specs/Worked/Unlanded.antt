@@ -4,13 +4,13 @@ use mathlib.Core.Bool.{false, not}
 use mathlib.Core.List.{List, [], _∷_, map}
 use lib.ListN.{getD, replicate}
 use Rattle.transit.specs.declared.Place.the-variants.{SourceChannel}
-use Rattle.broker.specs.Kind
+use Rattle.record.specs.Kind
 use Rattle.broker.specs.Names.{vmid, isMigrating}
 use Rattle.transit.specs.Message.{rank}
 use Rattle.broker.specs.Ranks.{everyRank}
 use Rattle.broker.specs.State.{idle, fresh}
 use Rattle.broker.specs.declared.process.Status.the-variants.{Running, Migrating}
-use Rattle.broker.specs.declared.record.Record.the-variants.{Start, Call, Route, Send, Take, Move}
+use Rattle.record.specs.declared.Record.the-variants.{Start, Call, Route, Send, Take, Move}
 use Rattle.ordering.specs.Worked.Account.{computed, from-fresh}
 use Rattle.ordering.specs.Claim.{Reading, Entry, after, noMoveOpen}
 use Rattle.ordering.specs.Worked.Result.{Result, brief, result, Balance, balance, whole, did, process}

@@ -7,11 +7,11 @@ use native.Mathlib.Omega.{arith}
 use borrow.Author.Needs.{needs}
 use lib.ListN.{length, take}
 use lib.Seq.{length-take-le}
-use Rattle.checks.specs.Desk.{deskOf, Desk}
-use Rattle.printout.specs.Laws.Course.{stands-sound, stands-on, stands-filled}
-use Rattle.printout.specs.Course.{Stands}
-use Rattle.printout.specs.Course.Course.{begun}
-use Rattle.printout.specs.Turn.{bufferRoom}
+use Rattle.desk.specs.Desk.{deskOf, Desk}
+use Rattle.print_turn.specs.Laws.Course.{stands-sound, stands-on, stands-filled}
+use Rattle.print_turn.specs.Course.{Stands}
+use Rattle.print_turn.specs.Course.Course.{begun}
+use Rattle.print_turn.specs.Turn.{bufferRoom}
 use Rattle.replay.specs.Ends.{last, ahead, less-behind, less-unread}
 use Rattle.replay.proofs.main.Statement.{statement}
 use Rattle.replay.proofs.main.Tie as tie

@@ -2,9 +2,9 @@
 -- Assumes nothing.
 use borrow.Author.Needs.{needs}
 use Rattle.broker.specs.State.{State}
-use Rattle.checks.specs.Desk.{deskOf}
-use Rattle.checks.specs.Laws.Settled.{settle-refused, settle-accepted, nothing-applies}
-use Rattle.checks.specs.Look.{nameFor}
+use Rattle.desk.specs.Desk.{deskOf}
+use Rattle.desk.specs.Laws.Settled.{settle-refused, settle-accepted, nothing-applies}
+use Rattle.desk.specs.Look.{nameFor}
 use Rattle.settle.proofs.settle.Statement.{statement}
 use Rattle.settle.proofs.settle.Tie as tie
 

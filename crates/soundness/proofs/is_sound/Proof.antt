@@ -4,7 +4,7 @@ use mathlib.Core.Path.{_≡_, sym, _∙_}
 use mathlib.Core.Bool.{_&&_}
 use borrow.Author.Needs.{needs}
 use borrow.Author.Tests.{not-true, not-false}
-use Rattle.broker.specs.Sound.{sound}
+use Rattle.protocol.specs.Sound.{sound}
 use Rattle.broker.specs.State.{State, view}
 use Rattle.soundness.specs.Laws.Sound.{byRanks, byPairs, byMessages, sound-by-parts}
 use Rattle.soundness.proofs.Types.{typed}

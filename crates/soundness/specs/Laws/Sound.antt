@@ -15,19 +15,19 @@ use Rattle.transit.specs.Message.{between, number, rank, cells, ranks}
 use Rattle.transit.specs.Unread.{limit}
 use Rattle.transit.specs.declared.Message.{Message}
 use Rattle.transit.specs.declared.Rank.{Rank}
-use Rattle.broker.specs.Laws.Ranks.{everyRank-at, everyRank-of, everyPair-at, everyPair-of}
-use Rattle.broker.specs.Laws.Sound.{AtPairs, Shape, Names, Pairs, Mail, Facts, facts, of-facts, isNamed, hasEnds, fitsUnheeded, fitsPlace}
-use Rattle.broker.specs.Messages.{sentBetween}
+use Rattle.protocol.specs.Laws.Ranks.{everyRank-at, everyRank-of, everyPair-at, everyPair-of}
+use Rattle.protocol.specs.Laws.Sound.{AtPairs, Shape, Names, Pairs, Mail, Facts, facts, of-facts, isNamed, hasEnds, fitsUnheeded, fitsPlace}
+use Rattle.protocol.specs.Messages.{sentBetween}
 use Rattle.broker.specs.Names.{numbers, isStarted, isMigrating, isLive, isClosed, isOpen, isClosing, isClear}
-use Rattle.broker.specs.Sound.{sound}
+use Rattle.protocol.specs.Sound.{sound}
 use Rattle.broker.specs.State.{State, cell, status, request, location, connection, backlog, linkAt, drawnOn, messages}
-use Rattle.soundness.specs.Laws.Messages.{has-cell, pair-inside, pair-is-cell}
-use Rattle.soundness.specs.Laws.Rising.{numbersIn, never-falls, rises-within, rises-tells, rises-of}
-use Rattle.soundness.specs.Laws.Walk.{cell-of}
-use Rattle.soundness.specs.Messages.{messageSoundAt, pairOf, notBelow, within, placesRise, numbersRise, messagesSound}
-use Rattle.soundness.specs.Names.{vmidsDrawn}
-use Rattle.soundness.specs.Pairs.{locationFits, vmidsApart, connectionFits, backlogFits, requestFits, pairSoundAt, pairsSound}
-use Rattle.soundness.specs.Ranks.{requestDrawn, nothingWithSelf, rankSoundAt, ranksSound}
+use Rattle.soundness_messages.specs.Laws.Messages.{has-cell, pair-inside, pair-is-cell}
+use Rattle.soundness_messages.specs.Laws.Rising.{numbersIn, never-falls, rises-within, rises-tells, rises-of}
+use Rattle.soundness_pairs.specs.Laws.Walk.{cell-of}
+use Rattle.soundness_messages.specs.Messages.{messageSoundAt, pairOf, notBelow, within, placesRise, numbersRise, messagesSound}
+use Rattle.soundness_names.specs.Names.{vmidsDrawn}
+use Rattle.soundness_pairs.specs.Pairs.{locationFits, vmidsApart, connectionFits, backlogFits, requestFits, pairSoundAt, pairsSound}
+use Rattle.soundness_ranks.specs.Ranks.{requestDrawn, nothingWithSelf, rankSoundAt, ranksSound}
 
 -- the three tests
 abbrev pub byRanks : State → Bool

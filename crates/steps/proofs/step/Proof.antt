@@ -3,13 +3,13 @@
 use mathlib.Core.Path.{refl, sym, subst, _∙_}
 use borrow.Author.Needs.{needs}
 use borrow.Author.Tests.{not-true, not-false}
-use Rattle.broker.specs.Laws.Restart.{never-eighteen}
+use Rattle.protocol.specs.Laws.Restart.{never-eighteen}
 use Rattle.broker.specs.State.{State, view}
-use Rattle.broker.specs.Step.{Stepped}
+use Rattle.protocol.specs.Step.{Stepped}
 use Rattle.steps.specs.Laws.InPlace.{stepped-in-place}
 use Rattle.steps.specs.Laws.Refused.{accepted-is-no-refusal, refused-step}
-use Rattle.steps.specs.Laws.Step.{unsound-step}
-use Rattle.steps.specs.Outcome.{replied}
+use Rattle.steps_in_place.specs.Laws.Step.{unsound-step}
+use Rattle.steps_in_place.specs.InPlace.{replied}
 use Rattle.steps.proofs.step.Statement.{statement}
 use Rattle.steps.proofs.step.Tie as tie
 

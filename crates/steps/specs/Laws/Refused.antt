@@ -3,12 +3,12 @@ use mathlib.Core.Path.{_≡_, sym, ap, _∙_}
 use mathlib.Core.List.{List}
 use Prim.Native.Nat.{ℕ}
 use native.Mathlib.Omega.{arith}
-use Rattle.broker.specs.Laws.Step.{step-refused}
+use Rattle.protocol.specs.Laws.Step.{step-refused}
 use Rattle.broker.specs.State.{State}
-use Rattle.broker.specs.Step.{Outcome, Stepped}
-use Rattle.broker.specs.declared.answer.Answer.{Answer}
-use Rattle.broker.specs.declared.answer.Answer.the-variants.{Accepted, Refused}
-use Rattle.broker.specs.declared.answer.Refusal.{Refusal}
+use Rattle.protocol.specs.Step.{Outcome, Stepped}
+use Rattle.answer.specs.declared.Answer.{Answer}
+use Rattle.answer.specs.declared.Answer.the-variants.{Accepted, Refused}
+use Rattle.answer.specs.declared.Refusal.{Refusal}
 use Rattle.broker.specs.declared.state.Broker.{Broker}
 use Rattle.steps.specs.Outcome.{RefusalKeeps}
 

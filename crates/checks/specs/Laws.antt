@@ -1,6 +1,0 @@
--- Laws of the definitions that the contracts cite.
-pub mod Desk
-pub mod Look
-pub mod Settled
-pub mod Unread
-pub mod Verdict

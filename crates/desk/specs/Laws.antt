@@ -1,0 +1,4 @@
+-- Laws of the definitions that the contracts cite.
+pub mod Desk
+pub mod Look
+pub mod Settled

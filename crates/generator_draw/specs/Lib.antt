@@ -1,0 +1,4 @@
+-- The generator's words, laws of them, and worked examples.
+pub mod Draw
+pub mod Laws
+pub mod Worked

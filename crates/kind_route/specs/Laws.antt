@@ -1,0 +1,4 @@
+-- Laws of the definitions that the contracts cite.
+pub mod Judged
+pub mod Routed
+pub mod Withdrawn

@@ -1,0 +1,3 @@
+-- Laws of the definitions that the contracts cite.
+pub mod Done
+pub mod Judged

@@ -1,5 +1,0 @@
--- Theorems of the definitions.
-pub mod Argument
-pub mod Course
-pub mod Ending
-pub mod Piece

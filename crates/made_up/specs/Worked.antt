@@ -1,3 +1,0 @@
--- Worked examples of the definitions.
-pub mod Argument
-pub mod Ending

@@ -1,0 +1,51 @@
+-- Laws of how a pass ends: which seeds are refused. Assumes nothing.
+use mathlib.Core.List.{List}
+use mathlib.Core.Logic.{_≢_}
+use mathlib.Core.Path.{_≡_, sym, ap, _∙_}
+use Prim.Native.Nat.{ℕ, _≤_, _<_}
+use native.Mathlib.Omega.{arith}
+use lib.ListN.{length}
+use Rattle.base.specs.Laws.Tests.{by-equal}
+use Rattle.generator.specs.Answer.{Outcome, makes}
+use Rattle.generator_draw.specs.Draw.{words}
+use Rattle.generator.specs.Laws.Answer.{is-written}
+use Rattle.generator.specs.Laws.MadeUp.{IsWord, leaves-word}
+use Rattle.made_up_pass.specs.Course.Course.{begun, further}
+use Rattle.made_up_pass.specs.Course.{Course}
+use Rattle.made_up_pass.specs.Laws.Piece.{piece-records, piece-word}
+use Rattle.made_up_pass.specs.Piece.{pieceRoom, pieceRecords, Pieced}
+use Rattle.made_up_pass.specs.declared.Piece.{Piece}
+
+-- A piece is refused just for a word of zero, and then with 26.
+module _ {word left : ℕ} {buffer after : List ℕ} {p : Piece} (pieced : Pieced word left buffer p after) where
+  number-of : p .number ≡ makes word (pieceRecords left) buffer .number
+  number-of = ap (λ (o : Outcome). o .number) (pieced .made)
+
+  pub good-word : p .number ≡ 0 → word ≢ 0
+  good-word made zero = let refused : _≡_ {A = ℕ} 26 0 = rw zero at (sym number-of ∙ made) in omega arith
+
+  pub refused-word : pieceRoom ≤ length buffer → p .number ≢ 0 → (p .number ≡ 26) × (word ≡ 0)
+  refused-word room refused =
+      by-equal word 0 (λ zero. (number-of ∙ rw zero, zero))
+      (λ some. absurd (refused (number-of ∙
+      ap (λ (o : Outcome). o .number) (is-written word (pieceRecords left) buffer some (omega (arith, piece-records left .1))))))
+
+-- A good seed leads to words that are not zero, and zero to no piece.
+module _ {seed count : ℕ} where
+  good-seed : {word left : ℕ} {written : List ℕ} → Course seed count word left written → word ≢ 0 → seed ≢ 0
+  good-seed begun some = some
+  good-seed (further pieced made course) some = good-seed course (good-word pieced made)
+
+  stays-word : IsWord seed → {word left : ℕ} {written : List ℕ} → Course seed count word left written → IsWord word
+  stays-word good begun = good
+  stays-word good (further {word} {left} pieced made course) =
+      rw (piece-word pieced made) (leaves-word (pieceRecords left) word (stays-word good course))
+
+  pub seed-good : {word left : ℕ} {written buffer after : List ℕ} {p : Piece} → Course seed count word left written
+      → Pieced word left buffer p after → p .number ≡ 0 → seed ≢ 0
+  seed-good course pieced made = good-seed course (good-word pieced made)
+
+  pub seed-zero : seed < words → {word left : ℕ} {written : List ℕ} → Course seed count word left written → word ≡ 0 → seed ≡ 0
+  seed-zero within course zero =
+      by-equal seed 0 (λ e. e)
+      (λ some. let word = stays-word (record { some = omega arith; within = within }) course .some in absurd (omega arith))

@@ -1,0 +1,57 @@
+-- The listing of paper 01, "The printed run", with the running numbers of paper 02, change 4, computed from the definitions.
+-- Assumes nothing.
+use mathlib.Core.Path.{_≡_, ap, _∙_}
+use mathlib.Core.List.{List, [], _∷_}
+use Prim.Native.Nat.{ℕ}
+use Rattle.print_page.specs.Ascii.{asciiLines}
+use Rattle.print_page.specs.Text.{decimal}
+use Rattle.print_lines.specs.Lines.{recordLine, pairLine, pairLines}
+use Rattle.protocol.specs.Laws.Opened.{opened}
+use Rattle.broker.specs.State.{fresh}
+use Rattle.ordering.specs.Worked.Listing.{log}
+use Rattle.ordering.specs.Laws.Runs.{fresh-sound}
+use Rattle.print_run.specs.Laws.Pieces.{printed-is-left, printed-in-pieces}
+use Rattle.print_run.specs.Pieces.{Turn, allBytes, inPieces}
+use Rattle.print_run.specs.Printed.{textOf, printed}
+use Rattle.print_run.specs.Run.{Naming}
+use Rattle.print_run.specs.Wholes.{closing, wholes, runFrom, left}
+
+abbrev pub text : List ℕ
+text =
+    asciiLines
+    ("0 01 0 0 1 0" ∷
+    "3 01 0 1 1 0" ∷
+    "6 02 0 1 1 0" ∷
+    "9 03 0 0 1 1" ∷
+    "12 04 0 1 0 0" ∷
+    "19 06 0 2 1 1" ∷
+    "22 04 0 2 0 0" ∷
+    "29 07 0 0 0 0" ∷
+    "32 02 0 1 1 0" ∷
+    "35 03 0 1 2 1" ∷
+    "38 03 0 0 2 1" ∷
+    "41 04 0 3 0 0" ∷
+    "48 09 19 0 0 0" ∷
+    "50 08 0 0 500 1" ∷
+    "53 08 0 0 501 2" ∷
+    "56 08 0 1 0 0" ∷
+    "59 09 0 2 0 0" ∷
+    "61 05 0 500 2 1" ∷
+    "pair 0 1 0 0 1 1" ∷
+    "end" ∷ [])
+
+-- what is left to print of the listing's log, all of it; where this is opened, all that it computes with is open
+unfoldable computed : Naming → List ℕ
+unfolding opened decimal recordLine pairLine pairLines wholes closing runFrom
+computed named = left named 0 fresh log
+
+-- The listing's log prints the listing, whatever rank a look would name.
+pub listing-prints : (named : Naming) → printed named fresh log ≡ text
+unfolding computed
+listing-prints named = printed-is-left named fresh log fresh-sound
+
+-- It does so in whatever pieces it is read.
+pub listing-in-pieces :
+    (named : Naming) (ts : List Turn) → allBytes ts ≡ log → textOf (inPieces named 0 fresh [] ts) ≡ text
+listing-in-pieces named ts e =
+    printed-in-pieces named ts fresh fresh-sound ∙ ap (printed named fresh) e ∙ listing-prints named

@@ -1,0 +1,4 @@
+-- Laws of the definitions.
+pub mod Buffer
+pub mod Course
+pub mod Turn

@@ -1,0 +1,145 @@
+-- Laws of a turn: what stands at the front of the buffer behind a piece, and what the page shows, by what is next. Assumes nothing.
+use mathlib.Core.Bool.{Bool, true, false}
+use mathlib.Core.List.{List, _++_, append-nil}
+use mathlib.Core.Path.{_≡_, refl, ap, sym, _∙_}
+use Prim.Native.Nat.{ℕ, _+_, _≤_, _<_}
+use native.Mathlib.Nat.{add-zero}
+use native.Mathlib.Omega.{arith}
+use borrow.Author.Tests.{ltb-true, leb-true}
+use lib.Dec.{ltb, leb}
+use lib.ListN.{length, take, drop, getD}
+use lib.Seq.{length-take-le}
+use Rattle.base.specs.Laws.Below.{allBelow-at}
+use Rattle.base.specs.Laws.Tests.{both-right}
+use Rattle.print_page.specs.Laws.Put.{shows}
+use Rattle.print_page.specs.Put.{Put}
+use Rattle.record.specs.Kind.{isKind, bodyLength}
+use Rattle.record.specs.Record.{decode}
+use Rattle.protocol.specs.Sound.{sound}
+use Rattle.broker.specs.State.{State}
+use Rattle.record.specs.declared.Decoded.{Decoded}
+use Rattle.record.specs.declared.Decoded.the-variants.{Whole, Unknown, Cut}
+use Rattle.desk.specs.Look.{nameFor}
+use Rattle.print_turn.specs.Buffer.{Kept}
+use Rattle.print_last.specs.Last.{endingRoom}
+use Rattle.print_run.specs.Laws.Pieces.{piece-first, left-over, unknown-ends}
+use Rattle.print_run.specs.Laws.Text.{text-behind}
+use Rattle.print_run.specs.Laws.Window.{Seen, seen, moved, decode-dropped}
+use Rattle.print_run.specs.Laws.Window.Seen.{seen-cut, seen-end}
+use Rattle.print_run.specs.Printed.{linesOf, lastLines, textOf}
+use Rattle.print_piece.specs.Ran.{Ran, RanSome, Stops}
+use Rattle.print_run.specs.Run.{Answered}
+use Rattle.print_turn.specs.Turn.{farthest, longest, nextOf, MayFollow, leftBehind, Because, Turns}
+use Rattle.print_run.specs.Wholes.{isWhole, closing, left}
+use Rattle.print_piece.specs.declared.Stop.{Stop}
+use Rattle.print_piece.specs.declared.Stop.the-variants.{PageFull, KindUnknown, RecordCut}
+use Rattle.print_turn.specs.declared.Next.{Next}
+use Rattle.print_turn.specs.declared.Next.the-variants.{Again, Read, End}
+use Rattle.print_turn.specs.declared.Turned.{Turned}
+
+-- No kind's body is as long as the longest record.
+body-short : (k : ℕ) → isKind k ≡ true → bodyLength k < longest
+body-short k h =
+    let most = leb-true k 12 (both-right (leb 1 k) (leb k 12) h) in
+    ltb-true (bodyLength k) longest (allBelow-at 13 (λ k. ltb (bodyLength k) longest) refl k (omega arith))
+
+-- A record that is cut is shorter than the longest one.
+cut-is-short : (log : List ℕ) → decode log 0 ≡ Cut → length log < longest
+cut-is-short log e = by (seen log 0 e)
+  where
+    by : Seen log 0 Cut → length log < longest
+    by (seen-cut inside kind short) = omega (arith, body-short (getD log 0 0) kind)
+    by (seen-end past) = omega arith
+
+-- What is no whole record is the same so many bytes further on.
+unmoved : (k : ℕ) (d : Decoded) {e : Decoded} → moved k d ≡ e → isWhole e ≡ false → d ≡ e
+unmoved k (Whole r next) same none = cc (ap isWhole same)
+unmoved k Unknown same none = same
+unmoved k Cut same none = same
+
+-- What was left to print, whatever follows a piece, is the lines of its answers and what is left then.
+piece-shows :
+    {s : State} {piece : List ℕ} {base steps : ℕ} {state : State} {at : ℕ} {answers : List Answered} →
+    Ran s piece base steps state at answers →
+    (more : List ℕ) → left nameFor base s (piece ++ more) ≡ linesOf answers ++ left nameFor (base + at) state (drop at piece ++ more)
+piece-shows {s} {piece} {base} {steps} ran more =
+    ap textOf (rw (← ran .came) at (piece-first nameFor base steps s piece more)) ∙ rw text-behind
+
+-- Behind a piece whose rest goes to the buffer's front, on a page that has room for the end of a run.
+module _
+    {s : State} {buffer : List ℕ} {held base room : ℕ} {state : State} {at used steps : ℕ} {page buffer' : List ℕ} {k : ℕ}
+    (ran : RanSome s (take held buffer) base room state at used steps page) (rest : Kept buffer at held buffer' k)
+    (fits : held ≤ length buffer) (roomy : endingRoom ≤ room) (near : base < farthest)
+  where
+    -- What stands behind the piece stands at the buffer's front, where it is no whole record.
+    in-front : {d : Decoded} → decode (take held buffer) at ≡ d → isWhole d ≡ false → decode (take k buffer') 0 ≡ d
+    in-front e none =
+        let there = rw (add-zero at) at (decode-dropped (take held buffer) at (ran .inside) 0) in
+        rw (rest .holds) (unmoved at (decode (drop at (take held buffer)) 0) (sym there ∙ e) none)
+
+    -- what was left to print, whatever follows
+    was-left : sound s ≡ true → (more : List ℕ) →
+        left nameFor base s (take held buffer ++ more) ≡ take used page ++ left nameFor (base + at) state (take k buffer' ++ more)
+    was-left ok more = rw (rest .holds, ran .shown) (piece-shows (ran .ran ok) more)
+
+    -- Whatever is next, nothing that was held is lost or moved.
+    turns :
+        (next : Next) (done : Bool) (end : ℕ) (page' : List ℕ) →
+        let r : Turned = record { held = k; base = base + at; used = end; next = next } in
+        (sound s ≡ true → (more : List ℕ) → MayFollow done more → left nameFor base s (take held buffer ++ more) ≡
+        take end page' ++ leftBehind next (base + at) state (take k buffer' ++ more)) →
+        Because next base done (take k buffer') r → end ≤ length page' → length page' ≡ room →
+        Turns s buffer held base done room state buffer' r page'
+    turns next done end page' prints because within long =
+        let inside = length-take-le held buffer fits in
+        record {
+          shows = λ ok. record { stays = ran .ran ok .stays; prints = prints ok };
+          because = because;
+          exact = omega (arith, rest .counts, ran .inside);
+          holds = omega (arith, rest .counts);
+          fits = within;
+          keeps = (rest .room, long);
+        }
+
+    -- The page is full, or has no room for the end of the run.
+    pub turn-again : (done : Bool) → room < used + endingRoom →
+        Turns s buffer held base done room state buffer' (record { held = k; base = base + at; used = used; next = Again }) page
+    turn-again done h =
+        turns Again done used page (λ ok more may. was-left ok more) (near, omega arith, omega (arith, ran .taken)) (ran .fits) (ran .keeps)
+
+    -- By why the run of the piece stops, where the run is not over.
+    pub turn-on : (stop : Stop) (done : Bool) → Stops stop (take held buffer) at used room → (nextOf stop done ≡ End → ⊥) →
+        Turns s buffer held base done room state buffer' (record { held = k; base = base + at; used = used; next = nextOf stop done }) page
+    turn-on PageFull done h go = turn-again done (omega arith)
+    turn-on KindUnknown done h go = absurd (go refl)
+    turn-on RecordCut true h go = absurd (go refl)
+    turn-on RecordCut false h go =
+        let cut = in-front h refl in
+        let long = length-take-le k buffer' (omega (arith, rest .counts, rest .room)) in
+        turns Read false used page (λ ok more may. was-left ok more) (near, refl, cut, omega (arith, cut-is-short (take k buffer') cut))
+        (ran .fits) (ran .keeps)
+
+    -- The end of the run is put behind what the page shows, where nothing that may follow is a part of it.
+    module _
+        {text page' : List ℕ} {end : ℕ} (put : Put endingRoom page used text page' end) (behind : used + endingRoom ≤ length page)
+        (says : text ≡ linesOf (closing (base + at) (take k buffer') 0) ++ lastLines state)
+      where
+        over : (done : Bool) → isWhole (decode (take k buffer') 0) ≡ false →
+            ((more : List ℕ) → MayFollow done more →
+            left nameFor (base + at) state (take k buffer' ++ more) ≡ left nameFor (base + at) state (take k buffer')) →
+            (done ≡ false → decode (take k buffer') 0 ≡ Unknown) →
+            Turns s buffer held base done room state buffer' (record { held = k; base = base + at; used = end; next = End }) page'
+        over done none follows why =
+            turns End done end page'
+            (λ ok more may. was-left ok more ∙
+            rw (follows more may, left-over nameFor (base + at) state (take k buffer') none, ← says, shows put behind, append-nil))
+            (near, why) (omega (arith, put .within, put .room)) (put .room ∙ ran .keeps)
+
+        pub turn-ends : (stop : Stop) (done : Bool) → Stops stop (take held buffer) at used room → nextOf stop done ≡ End →
+            Turns s buffer held base done room state buffer' (record { held = k; base = base + at; used = end; next = End }) page'
+        turn-ends PageFull done h e = let z : _≡_ {A = ℕ} 0 1 = cc in absurd (omega arith)
+        turn-ends KindUnknown done h e =
+            let unknown = in-front h refl in
+            over done (ap isWhole unknown) (λ more may. unknown-ends nameFor (base + at) state (take k buffer') more unknown) (λ _. unknown)
+        turn-ends RecordCut true h e = over true (ap isWhole (in-front h refl)) (λ more may. rw (may refl, append-nil)) (λ t. cc)
+        turn-ends RecordCut false h e = let z : _≡_ {A = ℕ} 0 1 = cc in absurd (omega arith)
