@@ -17,3 +17,8 @@ countBelow (suc n) f = cond (f n) (suc (countBelow n f)) (countBelow n f)
 abbrev pub eachBelow {ℓ} : {A : Type ℓ} → ℕ → (ℕ → A → A) → A → A
 eachBelow zero f x = x
 eachBelow (suc n) f x = f n (eachBelow n f x)
+
+-- what holds of n numbers from m on
+abbrev pub Each : (ℕ → Type 0) → ℕ → ℕ → Type 0
+Each P m zero = Unit {0}
+Each P m (suc n) = P m × Each P (suc m) n

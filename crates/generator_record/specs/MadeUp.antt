@@ -2,9 +2,9 @@
 use mathlib.Core.List.{List, [], _∷_, _++_}
 use Prim.Native.Nat.{ℕ, zero, suc, _+_, _%_}
 use Rattle.transit.specs.Message.{ranks}
-use Rattle.record.specs.Kind.{Field, rankByte, hostByte, valueBytes, fieldsOf}
+use Rattle.record.specs.Kind.{Field, rankByte, hostByte, valueBytes}
 use Rattle.broker.specs.Names.{hosts}
-use Rattle.record.specs.Record.{bytesOf}
+use Rattle.record.specs.Record.{fieldsOf, bytesOf}
 use Rattle.generator_draw.specs.Draw.{draw}
 
 -- "modulo 12": the kinds 01 to 0C, whatever kinds a later request adds

@@ -3,7 +3,7 @@ ghost use mathlib.Core.Path.{_≡_};
 ghost use Prim.Native.Nat.{_+_, _<_, _≤_};
 ghost use lib.ListN.{length};
 ghost use Rattle.print_page.specs.Put.{Put};
-ghost use Rattle.record.specs.Kind.{fieldsOf};
+ghost use Rattle.record.specs.Record.{fieldsOf};
 ghost use Rattle.record.specs.Record.{bytesOf};
 ghost use Rattle.generator_record.specs.Body.{fieldsIn, hasSecond, secondBelow, hasValue};
 ghost use Rattle.generator_record.specs.MadeUp.{kinds, longest, body, bodyLeaves, madeRecord, recordLeaves};

@@ -6,16 +6,17 @@ use mathlib.Core.List.{List, [], _∷_, _++_, map}
 use mathlib.Core.Option.{Option, none, some}
 use Prim.Native.Nat.{ℕ, _<_}
 use lib.Dec.{ltb}
+use lib.ListN.{getD}
 use Rattle.base.specs.Lists.{select, every}
 use Rattle.transit.specs.Message.{sameRank, placeOrder, ranks}
 use Rattle.transit.specs.declared.Message.{Message}
 use Rattle.transit.specs.declared.Rank.{Rank}
 use Rattle.transit.specs.declared.Selection.the-variants.{Between}
-use Rattle.protocol.specs.Checks.{is}
+use Rattle.record.specs.Parts.{ranksIn, valuesIn, is, firstRank, ofFirst, ofTwo}
 use Rattle.record.specs.Kind
 use Rattle.broker.specs.Names.{isMigrating}
 use Rattle.broker.specs.Ranks.{everyRank}
-use Rattle.record.specs.Record.{decode, firstRank, secondRank}
+use Rattle.record.specs.Record.{decode}
 use Rattle.broker.specs.State.{State, fresh, status, messages}
 use Rattle.protocol.specs.Step.{Outcome, step}
 use Rattle.answer.specs.declared.Answer.{Answer}
@@ -23,7 +24,6 @@ use Rattle.answer.specs.declared.Answer.the-variants.{Accepted, Refused}
 use Rattle.record.specs.declared.Decoded.{Decoded}
 use Rattle.record.specs.declared.Decoded.the-variants.{Whole, Unknown, Cut}
 use Rattle.record.specs.declared.Record.{Record}
-use Rattle.record.specs.declared.Record.the-variants.{Start, Call, Route, Send, Take, Move, Heed, Drain, Land, Part, End, Look}
 
 -- Lists of steps.
 
@@ -76,27 +76,14 @@ records es = map (λ (e : Entry). e .read) es
 
 -- a send a b, and a take b a
 abbrev pub isSend : Rank → Rank → Entry → Bool
-isSend a b e =
-    is (Kind.send ∷ []) (e .read) && sameRank (firstRank (e .read)) a && every (λ r. sameRank r b) (secondRank (e .read))
+isSend a b e = is (Kind.send ∷ []) (e .read) && ofTwo (λ x y. sameRank x a && sameRank y b) (e .read)
 
 abbrev pub isTake : Rank → Rank → Entry → Bool
-isTake a b e =
-    is (Kind.take ∷ []) (e .read) && every (λ r. sameRank r a) (secondRank (e .read)) && sameRank (firstRank (e .read)) b
+isTake a b e = is (Kind.take ∷ []) (e .read) && ofTwo (λ y x. sameRank x a && sameRank y b) (e .read)
 
 -- the value in the body of a send
 abbrev pub valueIn : Record → ℕ
-valueIn (Start r h) = 0
-valueIn (Call a b) = 0
-valueIn (Route a b) = 0
-valueIn (Send a b v) = v
-valueIn (Take b a) = 0
-valueIn (Move r h) = 0
-valueIn (Heed b r) = 0
-valueIn (Drain r s) = 0
-valueIn (Land r) = 0
-valueIn (Part a b) = 0
-valueIn (End r) = 0
-valueIn (Look r) = 0
+valueIn r = getD (valuesIn r) 0 0
 
 -- "the values sent are those of the accepted sends a b .. in list order"
 abbrev pub sent : Rank → Rank → List Entry → List ℕ
@@ -134,7 +121,7 @@ fiveKinds es = select isFive (records es)
 -- "Between a move of r and its landing stand only heeds with r as second rank and drains with r as first"
 abbrev pub standsInside : Rank → Record → Bool
 standsInside r x =
-    is (Kind.heed ∷ []) x && every (λ p. sameRank p r) (secondRank x) || is (Kind.drain ∷ []) x && sameRank (firstRank x) r
+    is (Kind.heed ∷ []) x && ofTwo (λ b p. sameRank p r) x || is (Kind.drain ∷ []) x && ofFirst (λ p. sameRank p r) x
 
 -- "calls, routes and parts may stand anywhere else", and with them the first list's starts, sends, takes and ends
 abbrev pub standsOutside : Record → Bool
@@ -146,9 +133,9 @@ abbrev pub unbroken : Option Rank → List Record → Bool
 unbroken none [] = true
 unbroken (some r) [] = false
 unbroken none (x ∷ xs) =
-    cond (is (Kind.move ∷ []) x) (unbroken (some (firstRank x)) xs) (standsOutside x && unbroken none xs)
+    cond (is (Kind.move ∷ []) x) (unbroken (firstRank (ranksIn x)) xs) (standsOutside x && unbroken none xs)
 unbroken (some r) (x ∷ xs) =
-    cond (is (Kind.land ∷ []) x) (sameRank (firstRank x) r && unbroken none xs) (standsInside r x && unbroken (some r) xs)
+    cond (is (Kind.land ∷ []) x) (ofFirst (λ p. sameRank p r) x && unbroken none xs) (standsInside r x && unbroken (some r) xs)
 
 -- "One byte of kind, then a body .. Ranks and hosts are one byte each; the value is four bytes": a log is a list of bytes
 abbrev pub isByte : ℕ → Bool

@@ -11,19 +11,18 @@ ghost use Rattle.print_run.specs.Wholes.{reasonOf, closing};
 use answer::Refusal;
 use print_last::last_lines;
 use print_lines::refused_line;
+use record::decode::is_kind;
 use transit::Slots;
 
 // Why a run ends where a kind stands, and no whole record of it.
 fn reason_of(kind: u8) -> Refusal
     ensures { λ r. ⌜ r ≡ reasonOf kind ⌝ }
 {
-    if kind < 1 {
-        return Refusal::UnknownKind;
+    if is_kind(kind) {
+        Refusal::CutShort
+    } else {
+        Refusal::UnknownKind
     }
-    if 12 < kind {
-        return Refusal::UnknownKind;
-    }
-    Refusal::CutShort
 }
 
 // The line after which a run ends, where there is one, of what is left of the input: its first byte stands at `base`.

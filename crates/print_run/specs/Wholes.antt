@@ -5,8 +5,7 @@ use mathlib.Core.List.{List, [], _∷_, _++_}
 use Prim.Native.Nat.{ℕ, zero, suc, _+_}
 use lib.Dec.{ltb}
 use lib.ListN.{length, getD}
-use Rattle.record.specs.Kind.{isKind}
-use Rattle.record.specs.Record.{decode}
+use Rattle.record.specs.Record.{isKind, decode}
 use Rattle.broker.specs.State.{State}
 use Rattle.protocol.specs.Step.{Settlement, settle}
 use Rattle.answer.specs.declared.Answer.{Answer}

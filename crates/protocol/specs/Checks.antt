@@ -25,7 +25,7 @@ use Rattle.broker.specs.Names.{
   isUnheeded,
 }
 use Rattle.broker.specs.Ranks.{everyRank}
-use Rattle.record.specs.Record.{kindOf, firstRank, secondRank, namedHost}
+use Rattle.record.specs.Parts.{ranksIn, hostsIn, is, ofFirst, ofTwo}
 use Rattle.broker.specs.State.{State, status, request, connection, backlog, drawnOn, messages}
 use Rattle.answer.specs.declared.Refusal.{Refusal}
 use Rattle.answer.specs.declared.Refusal.the-variants.{
@@ -52,32 +52,28 @@ use Rattle.answer.specs.declared.Refusal.the-variants.{
   NumbersSpent,
   SequenceSpent,
 }
+use Rattle.broker.specs.declared.process.Status.{Status}
 use Rattle.record.specs.declared.Record.{Record}
 
--- the record is of one of the listed kinds
-abbrev pub is : List ℕ → Record → Bool
-is ks r = Kind.oneOf ks (kindOf r)
-
 -- a test of the first rank's standing
-abbrev pub firstStands : (Rattle.broker.specs.declared.process.Status.Status → Bool) → State → Record → Bool
-firstStands f s r = f (status s (firstRank r))
+abbrev pub firstStands : (Status → Bool) → State → Record → Bool
+firstStands f s r = ofFirst (λ a. f (status s a)) r
 
 -- 4: "a rank above 15"
 unfoldable pub rankRange : State → Record → Bool
-rankRange s r = not (isRank (firstRank r) && every isRank (secondRank r))
+rankRange s r = not (every isRank (ranksIn r))
 
 -- 5: "start, move: host above 7"
 unfoldable pub hostRange : State → Record → Bool
-hostRange s r = is (Kind.start ∷ Kind.move ∷ []) r && not (every (λ h. ltb h hosts) (namedHost r))
+hostRange s r = is (Kind.start ∷ Kind.move ∷ []) r && not (every (λ h. ltb h hosts) (hostsIn r))
 
 -- 6: "one rank named twice"
 unfoldable pub rankTwice : State → Record → Bool
-rankTwice s r = anyOf (sameRank (firstRank r)) (secondRank r)
+rankTwice s r = ofTwo sameRank r
 
 -- 7: "a named rank is unstarted (all but start)"
 unfoldable pub notStarted : State → Record → Bool
-notStarted s r =
-    not (is (Kind.start ∷ []) r) && not (every (λ a. isStarted (status s a)) (firstRank r ∷ secondRank r))
+notStarted s r = not (is (Kind.start ∷ []) r) && not (every (λ a. isStarted (status s a)) (ranksIn r))
 
 -- 8: "start: rank not unstarted"
 unfoldable pub alreadyStarted : State → Record → Bool
@@ -95,64 +91,61 @@ firstMigrating s r =
 
 -- 11: "drain, land: rank not moving"
 unfoldable pub notMigrating : State → Record → Bool
-notMigrating s r = is (Kind.drain ∷ Kind.land ∷ []) r && not (firstStands isMigrating s r)
+notMigrating s r = is (Kind.drain ∷ Kind.land ∷ []) r && firstStands (λ t. not (isMigrating t)) s r
 
 -- 12: "call: a line to b stands; end: any line stands"
 unfoldable pub connected : State → Record → Bool
 connected s r =
-    is (Kind.call ∷ []) r && anyOf (λ b. not (isClosed (connection s (firstRank r) b))) (secondRank r) ||
-    is (Kind.end ∷ []) r && not (everyRank (λ b. isClosed (connection s (firstRank r) b)))
+    is (Kind.call ∷ []) r && ofTwo (λ a b. not (isClosed (connection s a b))) r ||
+    is (Kind.end ∷ []) r && ofFirst (λ a. not (everyRank (λ b. isClosed (connection s a b)))) r
 
 -- 13: "call, move, end: a call of its own is open"
 unfoldable pub requestOpen : State → Record → Bool
-requestOpen s r = is (Kind.call ∷ Kind.move ∷ Kind.end ∷ []) r && isOpenRequest (request s (firstRank r))
+requestOpen s r = is (Kind.call ∷ Kind.move ∷ Kind.end ∷ []) r && ofFirst (λ a. isOpenRequest (request s a)) r
 
 -- 14: "route: a has no call open to b"
 unfoldable pub noRequest : State → Record → Bool
-noRequest s r =
-    is (Kind.route ∷ []) r && not (anyOf (λ b. asksFor b (request s (firstRank r))) (secondRank r))
+noRequest s r = is (Kind.route ∷ []) r && ofTwo (λ a b. not (asksFor b (request s a))) r
 
 -- 15: "send, part: no line to b"
 unfoldable pub notConnected : State → Record → Bool
-notConnected s r =
-    is (Kind.send ∷ Kind.part ∷ []) r && anyOf (λ b. isClosed (connection s (firstRank r) b)) (secondRank r)
+notConnected s r = is (Kind.send ∷ Kind.part ∷ []) r && ofTwo (λ a b. isClosed (connection s a b)) r
 
 -- 16: "part: line is notice"
 unfoldable pub peerMigrating : State → Record → Bool
-peerMigrating s r = is (Kind.part ∷ []) r && anyOf (λ b. isClosing (connection s (firstRank r) b)) (secondRank r)
+peerMigrating s r = is (Kind.part ∷ []) r && ofTwo (λ a b. isClosing (connection s a b)) r
 
 -- 17: "heed: line is not notice"
 unfoldable pub noNotice : State → Record → Bool
-noNotice s r =
-    is (Kind.heed ∷ []) r && anyOf (λ b. not (isClosing (connection s (firstRank r) b))) (secondRank r)
+noNotice s r = is (Kind.heed ∷ []) r && ofTwo (λ b m. not (isClosing (connection s b m))) r
 
 -- 19: "land: an await is not none"
 unfoldable pub backlogLeft : State → Record → Bool
-backlogLeft s r = is (Kind.land ∷ []) r && not (everyRank (λ p. isClear (backlog s (firstRank r) p)))
+backlogLeft s r = is (Kind.land ∷ []) r && ofFirst (λ m. not (everyRank (λ p. isClear (backlog s m p)))) r
 
 -- 20: "drain: await of s is none"
 unfoldable pub noBacklog : State → Record → Bool
-noBacklog s r = is (Kind.drain ∷ []) r && anyOf (λ p. isClear (backlog s (firstRank r) p)) (secondRank r)
+noBacklog s r = is (Kind.drain ∷ []) r && ofTwo (λ m p. isClear (backlog s m p)) r
 
 -- 21: "drain: no message at place 1 and await unheeded"
 unfoldable pub nothingToDrain : State → Record → Bool
 nothingToDrain s r =
     is (Kind.drain ∷ []) r &&
-    anyOf
-    (λ p.
-    eqb (tally (λ m. between p (firstRank r) m && at SourceChannel m) (messages s)) 0 &&
-    isUnheeded (backlog s (firstRank r) p))
-    (secondRank r)
+    ofTwo
+    (λ m p.
+    eqb (tally (λ x. between p m x && at SourceChannel x) (messages s)) 0 &&
+    isUnheeded (backlog s m p))
+    r
 
 -- 22: "take: pair has none unread; look: r has none"
 unfoldable pub nothingUnread : State → Record → Bool
 nothingUnread s r =
-    is (Kind.take ∷ []) r && anyOf (λ a. eqb (tally (between a (firstRank r)) (messages s)) 0) (secondRank r) ||
-    is (Kind.look ∷ []) r && eqb (tally (to (firstRank r)) (messages s)) 0
+    is (Kind.take ∷ []) r && ofTwo (λ b a. eqb (tally (between a b) (messages s)) 0) r ||
+    is (Kind.look ∷ []) r && ofFirst (λ a. eqb (tally (to a) (messages s)) 0) r
 
 -- 23: "end: r has unread messages"
 unfoldable pub unreadLeft : State → Record → Bool
-unreadLeft s r = is (Kind.end ∷ []) r && not (eqb (tally (to (firstRank r)) (messages s)) 0)
+unreadLeft s r = is (Kind.end ∷ []) r && ofFirst (λ a. not (eqb (tally (to a) (messages s)) 0)) r
 
 -- 24: "send: 1,024 already unread"
 unfoldable pub full : State → Record → Bool
@@ -161,12 +154,11 @@ full s r = is (Kind.send ∷ []) r && leb limit (s .unread .count)
 -- 25: "start, move: 65,535 numbers drawn on h"
 unfoldable pub numbersSpent : State → Record → Bool
 numbersSpent s r =
-    is (Kind.start ∷ Kind.move ∷ []) r && anyOf (λ h. leb numbers (drawnOn s h)) (namedHost r)
+    is (Kind.start ∷ Kind.move ∷ []) r && anyOf (λ h. leb numbers (drawnOn s h)) (hostsIn r)
 
 -- Paper 02, change 4: "28 for a send when the pair has already sent 4,294,967,295, tested after 25"
 unfoldable pub sequenceSpent : State → Record → Bool
-sequenceSpent s r =
-    is (Kind.send ∷ []) r && anyOf (λ b. leb mostSent (sentBetween (firstRank r) b s)) (secondRank r)
+sequenceSpent s r = is (Kind.send ∷ []) r && ofTwo (λ a b. leb mostSent (sentBetween a b s)) r
 
 -- a row of the table: the refusal, and when it is given
 pub record Check : Type 0 where

@@ -1,10 +1,9 @@
--- The kinds of the step log, "Kinds are hexadecimal", and the fields that the body of each has. Paper 01, "The step log".
+-- The numbers of the kinds, "Kinds are hexadecimal", and what stands in a body. Paper 01, "The step log".
 -- Assumes nothing.
-use mathlib.Core.Bool.{Bool, false, _&&_, _||_}
-use mathlib.Core.List.{List, [], _∷_, map}
+use mathlib.Core.Bool.{Bool, false, _||_}
+use mathlib.Core.List.{List, [], _∷_}
 use Prim.Native.Nat.{ℕ, _+_}
-use lib.Dec.{eqb, leb}
-use lib.ListN.{getD}
+use lib.Dec.{eqb}
 
 abbrev pub start : ℕ
 start = 0x01
@@ -42,9 +41,6 @@ end = 0x0B
 abbrev pub look : ℕ
 look = 0x0C
 
-abbrev pub isKind : ℕ → Bool
-isKind k = leb start k && leb k look
-
 -- the kind is among the listed ones
 abbrev pub oneOf : List ℕ → ℕ → Bool
 oneOf [] k = false
@@ -66,27 +62,3 @@ fieldLength valueBytes = 4
 abbrev pub fieldsLength : List Field → ℕ
 fieldsLength [] = 0
 fieldsLength (f ∷ fs) = fieldLength f + fieldsLength fs
-
--- the bodies as the paper lists them, by kind from 01: "start r h", "call a b", "route a b", "send a b value", "take b a", "move r h",
--- "heed b r", "drain r s", "land r", "part a b", "end r", "look r"
-abbrev pub bodies : List (List Field)
-bodies =
-    [] ∷ rankAndHost ∷ twoRanks ∷ twoRanks ∷ (rankByte ∷ rankByte ∷ valueBytes ∷ []) ∷ twoRanks ∷ rankAndHost ∷ twoRanks ∷ twoRanks
-    ∷ oneRank ∷ twoRanks ∷ oneRank ∷ oneRank ∷ []
-  where
-    oneRank : List Field
-    oneRank = rankByte ∷ []
-
-    twoRanks : List Field
-    twoRanks = rankByte ∷ rankByte ∷ []
-
-    rankAndHost : List Field
-    rankAndHost = rankByte ∷ hostByte ∷ []
-
--- the fields of a kind's body, in order
-abbrev pub fieldsOf : ℕ → List Field
-fieldsOf k = getD bodies k []
-
--- "a body whose length the kind fixes"
-abbrev pub bodyLength : ℕ → ℕ
-bodyLength k = getD (map fieldsLength bodies) k 0

@@ -1,41 +1,65 @@
 // The record at a position of a log. Paper 01, "The step log".
+ghost use mathlib.Core.Bool.{true};
 ghost use mathlib.Core.Path.{_≡_};
 ghost use Prim.Native.Nat.{_+_, _<_, _^_};
 ghost use lib.ListN.{getD};
-ghost use Rattle.record.specs.Short.{shortRecord};
-ghost use Rattle.record.specs.Kind.{bodyLength};
-ghost use Rattle.record.specs.Record.{decode, recordOf, valueOf};
+ghost use Rattle.record.specs.Kind.{valueBytes};
+ghost use Rattle.record.specs.Record.{isKind, bodyLength, numberAt, recordOf, decode};
 use crate::Decoded;
 use crate::Record;
 use transit::Rank;
 
+// How many kinds there are: 01 to 0C.
+const KINDS: u8 = 12;
+
 // How many bytes follow each kind; 00 is none.
 const BODY: [usize; 13] = [0, 2, 2, 2, 6, 2, 2, 2, 2, 1, 2, 1, 1];
 
+pub fn is_kind(kind: u8) -> bool
+    ensures { λ r. ⌜ r ≡ isKind kind ⌝ }
+{
+    (1 <= kind) & (kind <= KINDS)
+}
+
 fn body_length(kind: u8) -> usize
-    requires { ⌜ kind < 13 ⌝ }
+    requires { ⌜ isKind kind ≡ true ⌝ }
     ensures { λ r. ⌜ r ≡ bodyLength kind ⌝ }
 {
     BODY[kind as usize]
 }
 
-// Four bytes, least significant first.
-fn value_of(b0: u8, b1: u8, b2: u8, b3: u8) -> u32
-    ensures { λ r. ⌜ r ≡ valueOf b0 b1 b2 b3 ⌝ }
+// The byte at a position, and 0 past the end.
+fn byte_at(bytes: &[u8], at: usize) -> u8
+    ensures { λ r. ⌜ r ≡ getD (now (bytes .entry)) at 0 ⌝ }
 {
+    if at < bytes.len() { bytes[at] } else { 0 }
+}
+
+// Four bytes, least significant first.
+fn value_at(bytes: &[u8], at: usize) -> u32
+    requires { ⌜ at + 3 < 2 ^ 64 ⌝ }
+    ensures { λ r. ⌜ r ≡ numberAt valueBytes at (now (bytes .entry)) ⌝ }
+{
+    let b0 = byte_at(bytes, at);
+    let b1 = byte_at(bytes, at + 1);
+    let b2 = byte_at(bytes, at + 2);
+    let b3 = byte_at(bytes, at + 3);
     (b0 as u32) + 256 * (b1 as u32) + 65536 * (b2 as u32) + 16777216 * (b3 as u32)
 }
 
-// A record of one or two bytes: one rank, two ranks, or a rank and a host.
-fn short_record(kind: u8, first: u8, second: u8) -> Record
-    ensures { λ r. ⌜ r ≡ shortRecord kind first second ⌝ }
+// The record of a kind, by the bytes of its body.
+fn record_of(kind: u8, body: &[u8]) -> Record
+    requires { ⌜ isKind kind ≡ true ⌝ }
+    ensures { λ r. ⌜ r ≡ recordOf kind (now (body .entry)) ⌝ }
 {
-    let a = Rank(first);
+    let second = byte_at(body, 1);
+    let a = Rank(byte_at(body, 0));
     let b = Rank(second);
     match kind {
         1 => Record::Start(a, second),
         2 => Record::Call(a, b),
         3 => Record::Route(a, b),
+        4 => Record::Send(a, b, value_at(body, 2)),
         5 => Record::Take(a, b),
         6 => Record::Move(a, second),
         7 => Record::Heed(a, b),
@@ -47,31 +71,6 @@ fn short_record(kind: u8, first: u8, second: u8) -> Record
     }
 }
 
-// The byte at a position, and 0 past the end.
-fn byte_at(log: &[u8], at: usize) -> u8
-    ensures { λ r. ⌜ r ≡ getD (now (log .entry)) at 0 ⌝ }
-{
-    if at < log.len() { log[at] } else { 0 }
-}
-
-// The record of a kind from 01 to 0C whose body starts at a position and ends before the last of all.
-fn record_at(kind: u8, log: &[u8], at: usize) -> Record
-    requires { ⌜ at + 5 < 2 ^ 64 ⌝ }
-    ensures { λ r. ⌜ r ≡ recordOf kind (now (log .entry)) at ⌝ }
-{
-    let first = byte_at(log, at);
-    let second = byte_at(log, at + 1);
-    if kind == 4 {
-        let b0 = byte_at(log, at + 2);
-        let b1 = byte_at(log, at + 3);
-        let b2 = byte_at(log, at + 4);
-        let b3 = byte_at(log, at + 5);
-        let value = value_of(b0, b1, b2, b3);
-        return Record::Send(Rank(first), Rank(second), value);
-    }
-    short_record(kind, first, second)
-}
-
 // What stands at a position: a whole record, a kind that is none, or the log's end or a body cut short.
 pub fn decode(log: &[u8], at: usize) -> Decoded
     ensures { λ r. ⌜ r ≡ decode (now (log .entry)) at ⌝ }
@@ -81,10 +80,7 @@ pub fn decode(log: &[u8], at: usize) -> Decoded
         return Decoded::Cut;
     }
     let kind = log[at];
-    if kind < 1 {
-        return Decoded::Unknown;
-    }
-    if 12 < kind {
+    if !is_kind(kind) {
         return Decoded::Unknown;
     }
     let body = at + 1;
@@ -92,5 +88,6 @@ pub fn decode(log: &[u8], at: usize) -> Decoded
     if end - body < long {
         return Decoded::Cut;
     }
-    Decoded::Whole(record_at(kind, log, body), body + long)
+    let next = body + long;
+    Decoded::Whole(record_of(kind, &log[body..next]), next)
 }

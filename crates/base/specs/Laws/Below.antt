@@ -2,14 +2,14 @@
 -- each number keeps and makes. Assumes nothing.
 use mathlib.Core.Bool.{Bool, true, false, not, cond, _&&_, and-true, and-false}
 use mathlib.Core.Path.{_≡_, refl}
-use Prim.Native.Nat.{ℕ, zero, suc, _+_, _<_}
+use Prim.Native.Nat.{ℕ, zero, suc, _+_, _<_, _≤_}
 use native.Mathlib.Decide.{ℕ-discrete}
 use native.Mathlib.Nat.{not-suc-le-zero}
 use native.Mathlib.Numerals.{add-one}
 use native.Mathlib.Omega.{arith}
 use borrow.Author.Tests.{ne-eqb}
 use lib.Dec.{eqb}
-use Rattle.base.specs.Below.{allBelow, countBelow, eachBelow}
+use Rattle.base.specs.Below.{Each, allBelow, countBelow, eachBelow}
 use Rattle.base.specs.Laws.Tests.{both, both-left, both-right, not-both, same-truth}
 
 pub allBelow-at : (n : ℕ) (f : ℕ → Bool) → allBelow n f ≡ true → (k : ℕ) → k < n → f k ≡ true
@@ -23,6 +23,15 @@ allBelow-at (suc n) f h k b = at (ℕ-discrete k n) (allBelow-at n f (both-left 
 pub allBelow-of : (n : ℕ) (f : ℕ → Bool) → ((k : ℕ) → k < n → f k ≡ true) → allBelow n f ≡ true
 allBelow-of zero f h = refl
 allBelow-of (suc n) f h = both (allBelow-of n f (λ k b. h k (omega arith))) (h n (omega arith))
+
+-- What holds of n numbers from m on holds of each.
+pub each-at : (P : ℕ → Type 0) (m n : ℕ) → Each P m n → (k : ℕ) → m ≤ k → k < m + n → P k
+each-at P m zero all k least most = absurd (omega arith)
+each-at P m (suc n) all k least most = at (ℕ-discrete k m) (each-at P (suc m) n (all .1) k)
+  where
+    at : Dec (k ≡ m) → (suc m ≤ k → k < suc m + n → P k) → P k
+    at (yes e) later = rw e (all .0)
+    at (no d) later = later (omega arith) (omega arith)
 
 -- A test that fails at a number fails below each bound past it.
 pub allBelow-fails : (n : ℕ) (f : ℕ → Bool) (k : ℕ) → k < n → f k ≡ false → allBelow n f ≡ false

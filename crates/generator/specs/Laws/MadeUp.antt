@@ -9,10 +9,12 @@ use lib.Dec.{leb}
 use lib.ListN.{length, length-append, List·getD-map}
 use Rattle.base.specs.Laws.Below.{allBelow-at}
 use Rattle.base.specs.Laws.Tests.{by-equal}
-use Rattle.record.specs.Kind.{Field, rankByte, hostByte, valueBytes, fieldLength, fieldsLength, bodies, fieldsOf, bodyLength}
+use Rattle.record.specs.Kind.{Field, rankByte, hostByte, valueBytes, fieldLength, fieldsLength}
+use Rattle.record.specs.Record.{bodies, fieldsOf, bodyLength}
 use Rattle.generator_draw.specs.Draw.{words, draw}
 use Rattle.generator_draw.specs.Laws.Draw.{draw-word, draw-zero}
 use Rattle.generator_record.specs.MadeUp.{
+  kinds,
   longest,
   drawn,
   body,
@@ -44,7 +46,7 @@ record-length word =
 record-within : (word : ℕ) → length (madeRecord word) ≤ longest
 record-within word =
     let kind = kindDrawn word in
-    let short : bodyLength kind ≤ 6 = leb-true _ 6 (allBelow-at 13 (λ k. leb (bodyLength k) 6) refl kind (omega arith)) in
+    let short : bodyLength kind ≤ 6 = leb-true _ 6 (allBelow-at (1 + kinds) (λ k. leb (bodyLength k) 6) refl kind (omega arith)) in
     rw (record-length word) (omega arith)
 
 -- "7 times n bytes" are enough for n records.

@@ -4,7 +4,7 @@ use mathlib.Core.List.{List, [], _∷_, _++_}
 use Prim.Native.Nat.{ℕ}
 use Rattle.transit.specs.Message.{rank}
 use Rattle.record.specs.Kind
-use Rattle.record.specs.Record.{decode}
+use Rattle.record.specs.Record.{decode, recordOf}
 use Rattle.record.specs.declared.Decoded.the-variants.{Whole}
 use Rattle.record.specs.declared.Record.the-variants.{Send}
 use Rattle.generator_draw.specs.Draw.{draw}
@@ -31,5 +31,5 @@ all-kinds-leave = refl
 
 -- "a send's value is one whole draw": the first record of seed 7 is a send of the fourth draw
 pub whole-draw : decode (madeLog 1 7) 0 ≡ Whole (Send (rank 7) (rank 3) (draw (draw (draw (draw 7))))) 7
-unfolding draw madeRecord recordLeaves madeLog decode
+unfolding draw madeRecord recordLeaves madeLog decode recordOf
 whole-draw = refl

@@ -17,7 +17,7 @@ use Rattle.protocol.specs.Laws.Kept.{sound-kept}
 use Rattle.protocol.specs.Laws.Quiet.{Calling, Joined, Quiet, sameVmid-self, call-calm, route-corrects, route-joins, send-calm, part-calm}
 use Rattle.broker.specs.Names.{sameVmid, endpoint, isEnded}
 use Rattle.transit.specs.Message.{rank}
-use Rattle.record.specs.Record.{decode}
+use Rattle.record.specs.Record.{decode, recordOf}
 use Rattle.protocol.specs.Sound.{sound}
 use Rattle.broker.specs.State.{State, status, location}
 use Rattle.protocol.specs.Step.{apply}
@@ -73,7 +73,7 @@ module _ (s : State) (a b : Rank) (v : ℕ) (hs : sound s ≡ true) (p : refusal
         (inBytes : Bool) (five : List Record) (takes : Rank → Rank → List ℕ) (c : Core) →
         Following inBytes none routed five takes c →
         Following inBytes none x five takes c
-    unfolding routed decode
+    unfolding routed decode recordOf
     routed-follows inBytes five takes c f =
         step-follows x (ofTwo Kind.route a b) (Route a b) 3 (λ t. named-in-bytes Kind.route refl) refl h routes (λ l. refl) f
 
@@ -123,7 +123,7 @@ module _ (s : State) (a b : Rank) (v : ℕ) (hs : sound s ≡ true) (p : refusal
       core q ≡ core s →
       decode (x .log) (x .at) ≡ Whole (Send a b v) next →
       Standing s q x (Send a b v)
-  unfolding apply decode
+  unfolding apply decode recordOf
   send-stands q x next quiet same reads =
       let calls = call-before s a b v p q (same-standings same) (quiet .calm) in
       let called = apply (rank 0) (Call a b) q .state in

@@ -19,7 +19,7 @@ use Rattle.protocol.specs.Laws.Kept.{sound-kept}
 use Rattle.protocol.specs.Laws.Quiet.{AllQuiet, Moving, Quiet, start-calm, take-calm, end-calm, move-calm, land-calm}
 use Rattle.protocol.specs.Laws.State.{sameRank-self}
 use Rattle.transit.specs.Message.{ranks, rank}
-use Rattle.record.specs.Record.{decode}
+use Rattle.record.specs.Record.{decode, recordOf}
 use Rattle.protocol.specs.Sound.{sound}
 use Rattle.broker.specs.State.{State}
 use Rattle.protocol.specs.Step.{apply}
@@ -151,7 +151,7 @@ module _ (s q : State) (x : Reading) (next : ℕ) (quiet : Quiet q) (same : core
       decode (x .log) (x .at) ≡ Whole (Move r h) next →
       refusal s (Move r h) ≡ none →
       Standing s q x (Move r h)
-  unfolding apply decode
+  unfolding apply decode recordOf
   move-stands r h reads p =
       let p′ = move-again s q same (quiet .calm) r h p in
       let hr = move-fits s r h p .one .in-range in

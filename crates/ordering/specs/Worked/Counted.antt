@@ -13,7 +13,7 @@ use Rattle.transit.specs.declared.Place.the-variants.{SourceList, SourceChannel
 use Rattle.record.specs.Kind
 use Rattle.broker.specs.Names.{vmid}
 use Rattle.broker.specs.Ranks.{everyRank}
-use Rattle.record.specs.Record.{decode}
+use Rattle.record.specs.Record.{decode, recordOf}
 use Rattle.broker.specs.State.{State, idle, fresh, withStatus, withUnread}
 use Rattle.answer.specs.declared.Answer.the-variants.{Accepted, Refused}
 use Rattle.answer.specs.declared.Refusal.the-variants.{NotConnected}
@@ -43,7 +43,7 @@ use Rattle.ordering.specs.Worked.Unbroken.{everyKind, everyEntry}
 
 pub record-of-every-kind-is-read-as-written :
     map (λ (r : Record). decode (written r) 0) everyKind ≡ map (λ (r : Record). Whole r (length (written r))) everyKind
-unfolding decode
+unfolding decode recordOf
 record-of-every-kind-is-read-as-written = refl
 
 -- Accepted steps.

@@ -19,7 +19,7 @@ use Rattle.protocol.specs.Laws.Accepts.{send-accepted}
 use Rattle.protocol.specs.Laws.Opened.{opened}
 use Rattle.protocol.specs.Laws.Step.{step-accepted, step-of-sound, step-keeps-sound}
 use Rattle.protocol.specs.Messages.{send, unreadBetween}
-use Rattle.record.specs.Record.{decode}
+use Rattle.record.specs.Record.{decode, recordOf}
 use Rattle.protocol.specs.Sound.{sound}
 use Rattle.broker.specs.State.{State, fresh, withUnread}
 use Rattle.protocol.specs.Step.{Outcome, apply}
@@ -78,7 +78,7 @@ one-message n =
 
 -- One more message is unread after a send.
 one-more : (n : ℕ) → n < limit → sound (laden n) ≡ true → stepAt (laden n) sending .state ≡ laden (n + 1)
-unfolding computed decode apply send
+unfolding computed decode recordOf apply send
 one-more n room h =
     ap (λ (o : Outcome). o .state)
     (step-accepted (rank 0) (laden n) (sending .log) 0 (Send (rank 0) (rank 1) 7) 7 h refl

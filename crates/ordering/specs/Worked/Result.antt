@@ -7,14 +7,14 @@ use mathlib.Core.Option.{none}
 use Prim.Native.Nat.{ℕ}
 use lib.ListN.{getD}
 use Rattle.base.specs.Laws.Lists.{select-select}
-use Rattle.base.specs.Lists.{select, every}
+use Rattle.base.specs.Lists.{select}
 use Rattle.transit.specs.Message.{sameRank, placeOrder, rank}
 use Rattle.transit.specs.declared.Message.{Message}
 use Rattle.transit.specs.declared.Rank.{Rank}
 use Rattle.transit.specs.declared.Selection.the-variants.{Between}
-use Rattle.protocol.specs.Checks.{is}
+use Rattle.record.specs.Parts.{is, ofTwo}
 use Rattle.record.specs.Kind
-use Rattle.record.specs.Record.{firstRank, secondRank, bytesOf}
+use Rattle.record.specs.Record.{bytesOf}
 use Rattle.broker.specs.State.{idle, fresh, messages}
 use Rattle.broker.specs.declared.process.Process.{Process}
 use Rattle.broker.specs.declared.process.Request.the-variants.{Absent}
@@ -22,21 +22,7 @@ use Rattle.broker.specs.declared.process.Status.{Status}
 use Rattle.record.specs.declared.Record.{Record}
 use Rattle.record.specs.declared.Record.the-variants.{Start, Call, Route, Send, Take, Move, Heed, Drain, Land, Part, End, Look}
 use Rattle.ordering.specs.Worked.Account.{Account, account}
-use Rattle.ordering.specs.Claim.{
-  Reading,
-  Entry,
-  SecondList,
-  areBytes,
-  after,
-  accepted,
-  everyAccepted,
-  records,
-  fiveKinds,
-  unbroken,
-  sent,
-  taken,
-  unread,
-}
+use Rattle.ordering.specs.Claim.{Reading, Entry, SecondList, areBytes, after, accepted, everyAccepted, records, fiveKinds, unbroken, sent, taken, unread}
 
 -- what a list comes to: its accepted steps, and the processes and the unread messages in the state that it leaves
 pub record Result : Type 0 where
@@ -79,20 +65,12 @@ balance xs r e a b t u s et eu es sum =
 abbrev isTaking : Entry → Bool
 isTaking e = is (Kind.take ∷ []) (e .read)
 
-abbrev fromRank : Rank → Entry → Bool
-fromRank a e = every (λ r. sameRank r a) (secondRank (e .read))
-
-abbrev byRank : Rank → Entry → Bool
-byRank b e = sameRank (firstRank (e .read)) b
+abbrev fromTo : Rank → Rank → Entry → Bool
+fromTo a b e = ofTwo (λ y x. sameRank x a && sameRank y b) (e .read)
 
 taken-of-takes :
-    (a b : Rank) (es : List Entry) →
-    map (λ (e : Entry). e .v1) (select (byRank b) (select (fromRank a) (select isTaking es))) ≡ taken a b es
-taken-of-takes a b es =
-    ap
-    (map (λ (e : Entry). e .v1))
-    (ap (select (byRank b)) (select-select isTaking (fromRank a) es) ∙
-    select-select (λ (e : Entry). isTaking e && fromRank a e) (byRank b) es)
+    (a b : Rank) (es : List Entry) → map (λ (e : Entry). e .v1) (select (fromTo a b) (select isTaking es)) ≡ taken a b es
+taken-of-takes a b es = ap (map (λ (e : Entry). e .v1)) (select-select isTaking (fromTo a b) es)
 
 -- So is a second list, from its own result and the first one's.
 pub second :

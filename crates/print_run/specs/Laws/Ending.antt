@@ -8,8 +8,7 @@ use lib.Dec.{leb, ltb}
 use lib.ListN.{getD, length, drop, length-drop}
 use lib.Seq.{getD-drop}
 use Rattle.base.specs.Laws.Tests.{by-test, same-truth}
-use Rattle.record.specs.Kind.{isKind, bodyLength}
-use Rattle.record.specs.Record.{decode}
+use Rattle.record.specs.Record.{isKind, bodyLength, decode}
 use Rattle.answer.specs.declared.Answer.the-variants.{Refused}
 use Rattle.print_run.specs.Laws.Wholes.{movedBy}
 use Rattle.print_run.specs.Laws.Window.{moved-same, decode-dropped}

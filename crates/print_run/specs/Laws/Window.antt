@@ -1,29 +1,28 @@
 -- What stands at a position of a log, seen in a part of the log: what is before the part only moves positions, and what is behind it
 -- changes nothing of a record that is whole in it, or of a kind that is none. Assumes nothing.
 use mathlib.Core.Path.{_≡_, refl, sym, _∙_}
-use mathlib.Core.Bool.{true, false, cond}
+use mathlib.Core.Bool.{true, false}
 use mathlib.Core.List.{List, _++_}
 use Prim.Native.Nat.{ℕ, _+_, _≤_, _<_}
 use native.Mathlib.Nat.{zero-add}
 use native.Mathlib.Omega.{arith}
-use borrow.Author.Tests.{eqb-true, eqb-false, ltb-true, ltb-false, leb-true, leb-false}
-use lib.Dec.{eqb, ltb, leb}
-use lib.ListN.{length, drop, getD, length-append, length-drop, List·getD-append}
+use borrow.Author.Tests.{ltb-true, ltb-false, leb-true, leb-false}
+use lib.Dec.{ltb, leb}
+use lib.ListN.{length, take, drop, getD, length-append, length-drop, List·getD-append}
 use lib.Seq.{getD-drop}
-use Rattle.base.specs.Laws.Tests.{both-left, both-right, by-test}
-use Rattle.record.specs.Kind.{isKind, bodyLength}
-use Rattle.record.specs.Record.{decode, recordOf}
+use Rattle.base.specs.Laws.Tests.{by-test}
+use Rattle.record.specs.Record.{isKind, bodyLength, recordOf, bodyAt, decode}
 use Rattle.record.specs.declared.Decoded.{Decoded}
 use Rattle.record.specs.declared.Decoded.the-variants.{Whole, Unknown, Cut}
 use Rattle.record.specs.declared.Record.{Record}
-use Rattle.record.specs.Laws.Record.{whole, no-kind, cut-short, at-end}
+use Rattle.record.specs.Laws.Record.{whole, no-kind, cut-short, at-end, body-same}
 use Rattle.print_run.specs.Wholes.{isWhole, reason}
 
 -- what stands at a position, with the tests that say so
 pub data Seen (log : List ℕ) (at : ℕ) : Decoded → Type 0 where
   seen-whole :
       at < length log → isKind (getD log at 0) ≡ true → at + 1 + bodyLength (getD log at 0) ≤ length log →
-      Seen log at (Whole (recordOf (getD log at 0) log (at + 1)) (at + 1 + bodyLength (getD log at 0)))
+      Seen log at (Whole (recordOf (getD log at 0) (bodyAt log at)) (at + 1 + bodyLength (getD log at 0)))
   seen-none : at < length log → isKind (getD log at 0) ≡ false → Seen log at Unknown
   seen-cut : at < length log → isKind (getD log at 0) ≡ true → length log < at + 1 + bodyLength (getD log at 0) → Seen log at Cut
   seen-end : length log ≤ at → Seen log at Cut
@@ -55,34 +54,6 @@ stands log at e = by (seen log at e)
     by : {r : Record} {next : ℕ} → Seen log at (Whole r next) → Stands log at next
     by (seen-whole h k f) = record { inside = h; passes = omega arith; fits = f }
 
--- A choice by a number that is no less is the same for the same two answers.
-by-number : {x x′ y y′ : Record} (k m : ℕ) → m ≤ k → (k ≡ m → x ≡ x′) → (m < k → y ≡ y′) → cond (eqb k m) x y ≡ cond (eqb k m) x′ y′
-by-number k m h p q = by-test (eqb k m) (λ t. rw t (p (eqb-true k m t))) (λ t. let other = eqb-false k m t in rw t (q (omega arith)))
-
--- A record is what its kind and the bytes of its body say, wherever they stand.
-module _ (a b : List ℕ) (i j kind : ℕ) (known : isKind kind ≡ true)
-    (same : (k : ℕ) → k < bodyLength kind → getD a (i + k) 0 ≡ getD b (j + k) 0) where
-  byte : {m : ℕ} → kind ≡ m → (k : ℕ) → ltb k (bodyLength m) ≡ true → getD a (i + k) 0 ≡ getD b (j + k) 0
-  byte {m} e k h = same k (rw e (ltb-true k (bodyLength m) h))
-
-  record-same : recordOf kind a i ≡ recordOf kind b j
-  record-same =
-      let least = leb-true 1 kind (both-left (leb 1 kind) (leb kind 12) known) in
-      let most = leb-true kind 12 (both-right (leb 1 kind) (leb kind 12) known) in
-      by-number kind 1 least (λ e. rw (byte e 0 refl, byte e 1 refl))
-      (λ h. by-number kind 2 h (λ e. rw (byte e 0 refl, byte e 1 refl))
-      (λ h. by-number kind 3 h (λ e. rw (byte e 0 refl, byte e 1 refl))
-      (λ h. by-number kind 4 h
-      (λ e. rw (byte e 0 refl, byte e 1 refl, byte e 2 refl, byte e 3 refl, byte e 4 refl, byte e 5 refl))
-      (λ h. by-number kind 5 h (λ e. rw (byte e 0 refl, byte e 1 refl))
-      (λ h. by-number kind 6 h (λ e. rw (byte e 0 refl, byte e 1 refl))
-      (λ h. by-number kind 7 h (λ e. rw (byte e 0 refl, byte e 1 refl))
-      (λ h. by-number kind 8 h (λ e. rw (byte e 0 refl, byte e 1 refl))
-      (λ h. by-number kind 9 h (λ e. rw (byte e 0 refl))
-      (λ h. by-number kind 10 h (λ e. rw (byte e 0 refl, byte e 1 refl))
-      (λ h. by-number kind 11 h (λ e. rw (byte e 0 refl))
-      (λ h. let last : kind ≡ 12 = omega arith in rw (byte last 0 refl))))))))))))
-
 -- what stands at a position, read so many bytes further on
 abbrev pub moved : ℕ → Decoded → Decoded
 moved k (Whole r next) = Whole r (k + next)
@@ -103,8 +74,8 @@ module _ (part log : List ℕ) (k : ℕ) (long : k + length part ≤ length log)
   decode-in (seen-whole h known f) last =
       let kind = getD part at 0 in
       let same : getD log (k + at) 0 ≡ kind = bytes at h in
-      let body : recordOf kind log (k + at + 1) ≡ recordOf kind part (at + 1) =
-      record-same log part (k + at + 1) (at + 1) kind known
+      let body : take (bodyLength kind) (drop (k + at + 1) log) ≡ bodyAt part at =
+      body-same log part (k + at + 1) (at + 1) (bodyLength kind) (omega arith) f
       (λ j b. let place : k + at + 1 + j ≡ k + (at + 1 + j) = omega arith in rw place (bytes (at + 1 + j) (omega arith))) in
       let on : k + at + 1 + bodyLength kind ≡ k + (at + 1 + bodyLength kind) = omega arith in
       rw same at (whole log (k + at) (omega arith) (rw same known) (rw same (omega arith))) ∙ rw (body, on)

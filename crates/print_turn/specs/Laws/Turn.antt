@@ -5,16 +5,15 @@ use mathlib.Core.Path.{_≡_, refl, ap, sym, _∙_}
 use Prim.Native.Nat.{ℕ, _+_, _≤_, _<_}
 use native.Mathlib.Nat.{add-zero}
 use native.Mathlib.Omega.{arith}
-use borrow.Author.Tests.{ltb-true, leb-true}
-use lib.Dec.{ltb, leb}
+use borrow.Author.Tests.{ltb-true}
+use lib.Dec.{ltb}
 use lib.ListN.{length, take, drop, getD}
 use lib.Seq.{length-take-le}
 use Rattle.base.specs.Laws.Below.{allBelow-at}
-use Rattle.base.specs.Laws.Tests.{both-right}
 use Rattle.print_page.specs.Laws.Put.{shows}
 use Rattle.print_page.specs.Put.{Put}
-use Rattle.record.specs.Kind.{isKind, bodyLength}
-use Rattle.record.specs.Record.{decode}
+use Rattle.record.specs.Laws.Record.{kind-most}
+use Rattle.record.specs.Record.{isKind, bodies, bodyLength, decode}
 use Rattle.protocol.specs.Sound.{sound}
 use Rattle.broker.specs.State.{State}
 use Rattle.record.specs.declared.Decoded.{Decoded}
@@ -40,8 +39,8 @@ use Rattle.print_turn.specs.declared.Turned.{Turned}
 -- No kind's body is as long as the longest record.
 body-short : (k : ℕ) → isKind k ≡ true → bodyLength k < longest
 body-short k h =
-    let most = leb-true k 12 (both-right (leb 1 k) (leb k 12) h) in
-    ltb-true (bodyLength k) longest (allBelow-at 13 (λ k. ltb (bodyLength k) longest) refl k (omega arith))
+    ltb-true (bodyLength k) longest
+    (allBelow-at (length bodies) (λ k. ltb (bodyLength k) longest) refl k (omega (arith, kind-most k h)))
 
 -- A record that is cut is shorter than the longest one.
 cut-is-short : (log : List ℕ) → decode log 0 ≡ Cut → length log < longest

@@ -210,14 +210,14 @@ one-of s r h k =
 two-of :
     (s : State) (a b : Rank) →
     not (isRank a && (isRank b && true)) ≡ false →
-    (sameRank a b || false) ≡ false →
+    sameRank a b ≡ false →
     not (isStarted (status s a) && (isStarted (status s b) && true)) ≡ false →
     Two s a b
 two-of s a b h e k =
     record {
       first = ltb-true (a .0) ranks (both-left (isRank a) (isRank b && true) (from-not _ h));
       second = ltb-true (b .0) ranks (one-only (isRank b) (both-right (isRank a) (isRank b && true) (from-not _ h)));
-      apart = or-none (sameRank a b) e;
+      apart = e;
       first-started = both-left (isStarted (status s a)) (isStarted (status s b) && true) (from-not _ k);
       second-started =
           one-only (isStarted (status s b)) (both-right (isStarted (status s a)) (isStarted (status s b) && true) (from-not _ k));
@@ -242,7 +242,7 @@ call-fits s a b accepted =
     record {
       two = two;
       running = running-of (status s a) (two .first-started) (passed HasEnded) (passed IsMigrating);
-      closed = from-not _ (or-none (not (isClosed (connection s a b))) (or-none _ (passed Connected)));
+      closed = from-not _ (or-none _ (passed Connected));
       idle = passed RequestOpen;
     }
 
@@ -252,12 +252,8 @@ route-fits s a b accepted =
     let passed = passes s (Route a b) accepted in
     record {
       two = two-of s a b (passed RankRange) (passed SameRank) (passed NotStarted);
-      asks = and-true-of (asksFor b (request s a)) (from-not _ (passed NoRequest));
+      asks = from-not _ (passed NoRequest);
     }
-  where
-    and-true-of : (x : Bool) → (x || false) ≡ true → x ≡ true
-    and-true-of true h = refl
-    and-true-of false h = h
 
 pub send-fits : (s : State) (a b : Rank) (v : ℕ) → refusal s (Send a b v) ≡ none → SendFits s a b
 unfolding openedChecks
@@ -267,9 +263,9 @@ send-fits s a b v accepted =
     record {
       two = two;
       running = running-of (status s a) (two .first-started) (passed HasEnded) (passed IsMigrating);
-      line = or-none (isClosed (connection s a b)) (passed NotConnected);
+      line = passed NotConnected;
       room = leb-false limit (s .unread .count) (passed Full);
-      numbered = leb-false mostSent (sentBetween a b s) (or-none (leb mostSent (sentBetween a b s)) (passed SequenceSpent));
+      numbered = leb-false mostSent (sentBetween a b s) (passed SequenceSpent);
     }
 
 pub take-fits : (s : State) (b a : Rank) → refusal s (Take b a) ≡ none → TakeFits s b a
@@ -280,7 +276,7 @@ take-fits s b a accepted =
     record {
       two = two;
       running = running-of (status s b) (two .first-started) (passed HasEnded) (passed IsMigrating);
-      unread = or-none (eqb (tally (between a b) (messages s)) 0) (or-none _ (passed NothingUnread));
+      unread = or-none _ (passed NothingUnread);
     }
 
 pub move-fits : (s : State) (r : Rank) (h : ℕ) → refusal s (Move r h) ≡ none → MoveFits s r h
@@ -303,7 +299,7 @@ heed-fits s b r accepted =
     record {
       two = two-of s b r (passed RankRange) (passed SameRank) (passed NotStarted);
       not-ended = passed HasEnded;
-      notice = from-not _ (or-none (not (isClosing (connection s b r))) (passed NoNotice));
+      notice = from-not _ (passed NoNotice);
     }
 
 pub drain-fits : (s : State) (r q : Rank) → refusal s (Drain r q) ≡ none → DrainFits s r q
@@ -313,8 +309,8 @@ drain-fits s r q accepted =
     record {
       two = two-of s r q (passed RankRange) (passed SameRank) (passed NotStarted);
       migrating = from-not _ (passed NotMigrating);
-      awaits = or-none (isClear (backlog s r q)) (passed NoBacklog);
-      ready = or-none _ (passed NothingToDrain);
+      awaits = passed NoBacklog;
+      ready = passed NothingToDrain;
     }
 
 pub land-fits : (s : State) (r : Rank) → refusal s (Land r) ≡ none → LandFits s r
@@ -335,10 +331,7 @@ part-fits s a b accepted =
     record {
       two = two;
       running = running-of (status s a) (two .first-started) (passed HasEnded) (passed IsMigrating);
-      plain =
-          open-of (connection s a b)
-          (or-none (isClosed (connection s a b)) (passed NotConnected))
-          (or-none (isClosing (connection s a b)) (passed PeerMigrating));
+      plain = open-of (connection s a b) (passed NotConnected) (passed PeerMigrating);
     }
 
 pub end-fits : (s : State) (r : Rank) → refusal s (End r) ≡ none → EndFits s r

@@ -9,7 +9,8 @@ use Rattle.base.specs.Laws.Stores.{store-unseen}
 use Rattle.base.specs.Laws.Tests.{by-test, not-both}
 use Rattle.transit.specs.Message.{sameRank, ranks}
 use Rattle.transit.specs.declared.Rank.{Rank}
-use Rattle.protocol.specs.Checks.{is, refusal}
+use Rattle.protocol.specs.Checks.{refusal}
+use Rattle.record.specs.Parts.{is, ofFirst}
 use Rattle.protocol.specs.Connect.{part}
 use Rattle.record.specs.Kind
 use Rattle.protocol.specs.Laws.Accepted.{start-fits, move-fits, land-fits, end-fits, running-not-migrating, started-of-migrating}
@@ -22,7 +23,6 @@ use Rattle.broker.specs.State.{nextVmid, State, idle, status, withStatus}
 use Rattle.protocol.specs.Messages.{send, take, look}
 use Rattle.protocol.specs.Migrate.{move, heed, land}
 use Rattle.broker.specs.Names.{endpoint, isStarted, isMigrating}
-use Rattle.record.specs.Record.{firstRank}
 use Rattle.protocol.specs.Sound.{sound}
 use Rattle.protocol.specs.Step.{apply}
 use Rattle.broker.specs.declared.process.Process.{Process}
@@ -34,8 +34,8 @@ use Rattle.record.specs.declared.Record.the-variants.{Start, Call, Route, Send,
 -- whether a move of r is open after an accepted record, by whether one was open before
 abbrev pub openAfter : Rank → Bool → Record → Bool
 openAfter r before x =
-    cond (is (Kind.move ∷ []) x && sameRank r (firstRank x)) true
-    (cond (is (Kind.land ∷ []) x && sameRank r (firstRank x)) false before)
+    cond (is (Kind.move ∷ []) x && ofFirst (sameRank r) x) true
+    (cond (is (Kind.land ∷ []) x && ofFirst (sameRank r) x) false before)
 
 unstarted-not-migrating : (t : Status) → isStarted t ≡ false → isMigrating t ≡ false
 unstarted-not-migrating t h = by-test (isMigrating t) (λ e. absurd (not-both (started-of-migrating t e) h)) (λ e. e)

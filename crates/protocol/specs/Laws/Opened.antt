@@ -11,7 +11,7 @@ use Rattle.protocol.specs.Life
 use Rattle.protocol.specs.Messages
 use Rattle.protocol.specs.Migrate
 use Rattle.broker.specs.Ranks.{everyRank, everyPair, countRanks, eachRank}
-use Rattle.record.specs.Record.{decode}
+use Rattle.record.specs.Record.{decode, recordOf}
 use Rattle.protocol.specs.Sound
 use Rattle.broker.specs.State.{State}
 use Rattle.protocol.specs.Step.{Outcome, stepSound, settle, apply}
@@ -49,7 +49,7 @@ openedSound s = Sound.sound s
 
 -- a step of a sound state; where this is opened, all that it computes with is open
 unfoldable pub opened : Rank → State → List ℕ → ℕ → Outcome
-unfolding stepSound settle apply decode openedChecks Unread.appended Unread.relabelAll Unread.relabelFirst
+unfolding stepSound settle apply decode recordOf openedChecks Unread.appended Unread.relabelAll Unread.relabelFirst
     Unread.removed Life.announced Life.start Life.end Connect.call Connect.route Connect.part Messages.send
     Messages.take Messages.look Migrate.leaveAll Migrate.move Migrate.heed Migrate.drain Migrate.land everyRank
     everyPair countRanks eachRank

@@ -14,10 +14,9 @@ use Rattle.base.specs.Lists.{every}
 use Rattle.transit.specs.declared.Rank.{Rank}
 use Rattle.answer.specs.Answer.{refusalNumber, values}
 use Rattle.protocol.specs.Checks.{Check, checks, firstOf, refusal}
-use Rattle.record.specs.Kind
 use Rattle.protocol.specs.Laws.Kept.{sound-kept}
 use Rattle.protocol.specs.Done.{Done}
-use Rattle.record.specs.Record.{decode}
+use Rattle.record.specs.Record.{isKind, bodyLength, decode}
 use Rattle.protocol.specs.Sound.{sound}
 use Rattle.broker.specs.State.{State}
 use Rattle.protocol.specs.Step.{Outcome, apply, refused, settle, stepSound, step}
@@ -33,7 +32,7 @@ abbrev pub staysAt : Refusal → Bool
 staysAt n = leb (refusalNumber n) 3
 
 abbrev pub pastRecord : List ℕ → ℕ → ℕ
-pastRecord log at = at + 1 + Kind.bodyLength (getD log at 0)
+pastRecord log at = at + 1 + bodyLength (getD log at 0)
 
 -- the outcome of a record that is carried out
 abbrev pub carried : Done → ℕ → Outcome
@@ -50,7 +49,7 @@ pub whole-ends : (log : List ℕ) (at : ℕ) (r : Record) (next : ℕ) → decod
 unfolding decode
 whole-ends log at r next e =
     by-test (ltb at (length log))
-    (λ b. by-test (Kind.isKind (getD log at 0))
+    (λ b. by-test (isKind (getD log at 0))
     (λ c. by-test (leb (pastRecord log at) (length log)) (λ d. cc (rw (b, c, d) at e)) (λ d. cc (rw (b, c, d) at e)))
     (λ c. cc (rw (b, c) at e)))
     (λ b. cc (rw b at e))

@@ -16,7 +16,7 @@ use Rattle.protocol.specs.Life.{announced, start}
 use Rattle.protocol.specs.Migrate.{move}
 use Rattle.broker.specs.Names.{numbers, vmid, sameVmid}
 use Rattle.broker.specs.Ranks.{eachRank}
-use Rattle.record.specs.Record.{decode}
+use Rattle.record.specs.Record.{decode, recordOf}
 use Rattle.protocol.specs.Sound.{sound}
 use Rattle.broker.specs.State.{State, status, drawnOn, fresh}
 use Rattle.protocol.specs.Step.{step}
@@ -55,6 +55,6 @@ unfolding start announced
 vmids-differ = restart-apart started (rank 0) (vmid 5 1) is-sound (omega arith) runs
 
 pub restart-is-carried-out : step (rank 0) started (Kind.move ∷ 0 ∷ 5 ∷ []) 0 ≡ carried (move (rank 0) 5 started) 3
-unfolding start announced decode
+unfolding start announced decode recordOf
 restart-is-carried-out =
     restart-carried-out started (rank 0) (vmid 5 1) is-sound (omega arith) runs refl has-room (rank 0) (Kind.move ∷ 0 ∷ 5 ∷ []) 0 3 refl

@@ -6,7 +6,7 @@ use Rattle.record.proofs.decode.byte_at.Statement.{statement}
 use Rattle.record.proofs.decode.byte_at.Tie as tie
 
 returns-2 : tie.Need-returns-2
-returns-2 c = sym (List·getD-eq-default (c .before .args .log .now) 0 (c .if1 .left))
+returns-2 c = sym (List·getD-eq-default (c .before .args .bytes .now) 0 (c .if1 .left))
 
 pub byte-at-spec : {M : Type 1} → statement M
 byte-at-spec =
