@@ -65,18 +65,21 @@ refusalNumber SequenceSpent = 28
 
 -- the printed number: "0 when accepted"
 abbrev pub number : Answer → ℕ
-number (Accepted v1 v2 v3) = 0
+number (Accepted v) = 0
 number (Refused n) = refusalNumber n
 
 -- Paper 02, change 2: "Number 18 is given no more, and the contract says that no input meets it."
 unfoldable pub NeverEighteen : Answer → Type 0
 NeverEighteen answer = number answer ≡ 18 → ⊥
 
--- v1, v2 and v3: "A refusal leaves .. v1 to v3 zero."
-abbrev pub values : Answer → List ℕ
-values (Accepted v1 v2 v3) = v1 ∷ v2 ∷ v3 ∷ []
-values (Refused n) = 0 ∷ 0 ∷ 0 ∷ []
+-- v1, v2 and v3
+abbrev pub three : ℕ → ℕ → ℕ → Values
+three v1 v2 v3 = record { 0 = v1; 1 = v2; 2 = v3 }
 
--- the three values of a `Values`
 abbrev pub listed : Values → List ℕ
 listed v = v .0 ∷ v .1 ∷ v .2 ∷ []
+
+-- the values of an answer: "A refusal leaves .. v1 to v3 zero."
+abbrev pub values : Answer → List ℕ
+values (Accepted v) = listed v
+values (Refused n) = 0 ∷ 0 ∷ 0 ∷ []

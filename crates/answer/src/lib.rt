@@ -5,6 +5,7 @@ ghost use Prim.Native.Nat.{_+_, _<_};
 ghost use lib.Dec.{ltb};
 ghost use Rattle.answer.specs.Answer.{refusalNumber, number, values, listed};
 use transit::Count;
+use transit::Value;
 
 // Why a step is refused: the rows of the table of checks, numbers 1 to 17, 19 to 25 and 28 in this order.
 pub enum Refusal {
@@ -36,18 +37,18 @@ pub enum Refusal {
 }
 
 pub enum Answer {
-    Accepted(u32, u32, u32),
+    Accepted(Values),
     Refused(Refusal),
 }
 
 // v1, v2 and v3 of an answer.
-pub struct Values(pub u32, pub u32, pub u32);
+pub struct Values(pub Value, pub Value, pub Value);
 
 // A count of unread messages as it is answered and printed: its 16 bits widen here and nowhere else.
-pub fn widened(n: Count) -> u32
+pub fn widened(n: Count) -> Value
     ensures { λ r. ⌜ r ≡ n ⌝ }
 {
-    n as u32
+    n as Value
 }
 
 impl Refusal {
@@ -105,7 +106,7 @@ impl Answer {
         ensures { λ r. ⌜ r ≡ number self ⌝ }
     {
         match self {
-            Answer::Accepted(_, _, _) => 0,
+            Answer::Accepted(_) => 0,
             Answer::Refused(n) => n.number(),
         }
     }
@@ -115,7 +116,7 @@ impl Answer {
         ensures { λ r. ⌜ listed r ≡ values self ⌝ }
     {
         match self {
-            Answer::Accepted(v1, v2, v3) => Values(v1, v2, v3),
+            Answer::Accepted(values) => values,
             Answer::Refused(_) => Values(0, 0, 0),
         }
     }

@@ -7,7 +7,7 @@ use Prim.Native.Nat.{ℕ}
 use Rattle.transit.specs.Mail.{Mail, unreadIn}
 use Rattle.transit.specs.Unread.{Unread}
 use Rattle.protocol.specs.Checks.{refusal}
-use Rattle.protocol.specs.Done.{Done, done}
+use Rattle.protocol.specs.Done.{Done}
 use Rattle.protocol.specs.Sound.{sound}
 use Rattle.broker.specs.State.{State, withUnread}
 use Rattle.answer.specs.declared.Values.{Values}
@@ -31,7 +31,7 @@ Judges r s v = verdictOf v ≡ refusal s r
 
 -- the values and the state afterwards are those of the definition
 abbrev pub Does : (State → Done) → State → Values → State → Type 0
-Does f s v s' = done s' (v .0) (v .1) (v .2) ≡ f s
+Does f s v s' = record { state = s'; values = v } ≡ f s
 
 -- a change that needs no messages, whatever is unread
 pub record RosterDoes (f : State → Done) (roster : List ℕ) (v : Values) (roster' : List ℕ) : Type 0 where

@@ -5,7 +5,7 @@ ghost use lib.ListN.{length};
 ghost use Rattle.print_page.specs.Put.{Put};
 ghost use Rattle.generator.specs.Answer.{number, outcome, makes};
 ghost use Rattle.generator_record.specs.MadeUp.{longest, madeLog, logLeaves};
-use generator_record::Standing;
+use generator_record::Progress;
 use generator_record::put_record;
 
 // The word at which the generator stands. A seed is the first one.
@@ -38,7 +38,7 @@ impl Made {
 const LONGEST: usize = 7;
 
 // So many records from a word, at the buffer's front.
-fn put_records(buffer: &mut [u8], n: usize, word: u32) -> Standing
+fn put_records(buffer: &mut [u8], n: usize, word: u32) -> Progress
     requires { ⌜ longest * n ≤ length (now buffer) ⌝ }
     ensures put { λ r. ⌜ Put (longest * n) (now (buffer .entry)) 0 (madeLog n word) (now (buffer .exit)) (r .used) ⌝ }
     ensures left { λ r. ⌜ r .word ≡ logLeaves n word ⌝ }
@@ -47,12 +47,12 @@ fn put_records(buffer: &mut [u8], n: usize, word: u32) -> Standing
     let mut at = word;
     let mut made: usize = 0;
     while made < n {
-        let standing = put_record(buffer, used, at);
-        used = standing.used;
-        at = standing.word;
+        let progress = put_record(buffer, used, at);
+        used = progress.used;
+        at = progress.word;
         made += 1;
     }
-    Standing {
+    Progress {
         used: used,
         word: at,
     }
@@ -70,9 +70,9 @@ pub fn go_on(word: Word, n: usize, buffer: &mut [u8]) -> Made
     if buffer.len() / LONGEST < n {
         return Made::TooShort;
     }
-    let standing = put_records(buffer, n, at);
-    let used = standing.used;
-    let left = standing.word;
+    let progress = put_records(buffer, n, at);
+    let used = progress.used;
+    let left = progress.word;
     Made::Written(used, Word(left))
 }
 

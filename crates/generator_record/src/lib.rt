@@ -21,7 +21,7 @@ const RANKS: u32 = Broker::RANKS as u32;
 const HOSTS: u32 = Broker::HOSTS as u32;
 
 // How far a log has come: the bytes that are used of the buffer, and the word that the generator stands at.
-pub struct Standing {
+pub struct Progress {
     pub used: usize,
     pub word: u32,
 }
@@ -105,7 +105,7 @@ fn has_value(fields: Body) -> bool
 }
 
 // A body, each field from a draw of its own. Every body begins with a rank.
-fn put_body(buffer: &mut [u8], used: usize, fields: Body, word: u32) -> Standing
+fn put_body(buffer: &mut [u8], used: usize, fields: Body, word: u32) -> Progress
     requires { ⌜ used + 6 ≤ length (now buffer) ⌝ }
     ensures put { λ r. ⌜ Put 6 (now (buffer .entry)) used (body (fieldsIn fields) word) (now (buffer .exit)) (r .used) ⌝ }
     ensures left { λ r. ⌜ r .word ≡ bodyLeaves (fieldsIn fields) word ⌝ }
@@ -113,7 +113,7 @@ fn put_body(buffer: &mut [u8], used: usize, fields: Body, word: u32) -> Standing
     let first = draw(word);
     let one = put_byte(buffer, used, (first % RANKS) as u8);
     if !has_second(fields) {
-        return Standing {
+        return Progress {
             used: one,
             word: first,
         };
@@ -121,20 +121,20 @@ fn put_body(buffer: &mut [u8], used: usize, fields: Body, word: u32) -> Standing
     let second = draw(first);
     let two = put_byte(buffer, one, (second % second_below(fields)) as u8);
     if !has_value(fields) {
-        return Standing {
+        return Progress {
             used: two,
             word: second,
         };
     }
     let value = draw(second);
-    Standing {
+    Progress {
         used: put_value(buffer, two, value),
         word: value,
     }
 }
 
 // A record: its kind, and the body of that kind.
-pub fn put_record(buffer: &mut [u8], used: usize, word: u32) -> Standing
+pub fn put_record(buffer: &mut [u8], used: usize, word: u32) -> Progress
     requires { ⌜ used + longest ≤ length (now buffer) ⌝ }
     ensures put { λ r. ⌜ Put longest (now (buffer .entry)) used (madeRecord word) (now (buffer .exit)) (r .used) ⌝ }
     ensures left { λ r. ⌜ r .word ≡ recordLeaves word ⌝ }

@@ -20,6 +20,7 @@ use roster_read::request_of;
 use roster_read::standing_of;
 use roster_write::set_request;
 use transit::Rank;
+use transit::Value;
 use verdict::Verdict;
 
 fn call_checked(
@@ -57,5 +58,5 @@ pub fn call(a: Rank, b: Rank, roster: &mut Roster) -> Values
 {
     let vmid = location_of(a, b, roster);
     set_request(a, Request::Posted(b, vmid), roster);
-    Values(vmid.0 as u32, vmid.1 as u32, 0)
+    Values(vmid.0 as Value, vmid.1 as Value, 0)
 }

@@ -20,6 +20,7 @@ use transit::Found;
 use transit::Place;
 use transit::Rank;
 use transit::Slots;
+use transit::Value;
 use transit_find::first_at;
 use transit_relabel::relabel_first;
 use verdict::Verdict;
@@ -78,7 +79,7 @@ pub fn drain(
     match found {
         Found::First(m) => {
             relabel_first(p, r, Place::SourceChannel, Place::SourceList, slots);
-            Values(0, m.value, m.sequence)
+            Values(0, m.value, m.sequence as Value)
         }
         Found::Nothing => {
             awaiting(r, p, Backlog::Clear, roster);

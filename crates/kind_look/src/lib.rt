@@ -18,6 +18,7 @@ use transit::Contents;
 use transit::Found;
 use transit::Rank;
 use transit::Slots;
+use transit::Value;
 use transit_find::first_to;
 use verdict::Verdict;
 use verdict::unread::is_nothing;
@@ -57,5 +58,5 @@ pub fn look(r: Rank, slots: &Slots, contents: &Contents) -> Values
 {
     let found = first_to(r, slots, contents);
     let sender = sender_in(found);
-    Values(sender.0 as u32, 0, 0)
+    Values(sender.0 as Value, 0, 0)
 }

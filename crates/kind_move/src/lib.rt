@@ -30,6 +30,7 @@ use roster_write::set_drawn;
 use roster_write::set_standing;
 use transit::Rank;
 use transit::Slots;
+use transit::Value;
 use verdict::Verdict;
 use verdict::names::is_host;
 use verdict::names::is_rank;
@@ -72,5 +73,5 @@ pub fn move_to(r: Rank, host: u8, slots: &mut Slots, roster: &mut Roster) -> Val
     leave_behind(r, slots);
     leave_all(r, roster);
     let awaited = awaits(r, roster);
-    Values(host as u32, number as u32, awaited)
+    Values(host as Value, number as Value, awaited as Value)
 }

@@ -21,6 +21,7 @@ use roster_write::connect_both;
 use roster_write::set_location;
 use roster_write::set_request;
 use transit::Rank;
+use transit::Value;
 use verdict::Verdict;
 
 fn route_checked(a: Rank, b: Rank, first: Status, second: Status, request: Request) -> Verdict
@@ -58,7 +59,7 @@ fn route_there(a: Rank, b: Rank, end: Vmid, roster: &mut Roster) -> Values
     connect_both(a, b, Connection::Open, roster);
     withdraw(a, b, roster);
     withdraw(b, a, roster);
-    Values(0, end.0 as u32, end.1 as u32)
+    Values(0, end.0 as Value, end.1 as Value)
 }
 
 // It was not: the entry and the call go to the current end.
@@ -68,7 +69,7 @@ fn route_on(a: Rank, b: Rank, end: Vmid, roster: &mut Roster) -> Values
 {
     set_location(a, b, end, roster);
     set_request(a, Request::Posted(b, end), roster);
-    Values(1, end.0 as u32, end.1 as u32)
+    Values(1, end.0 as Value, end.1 as Value)
 }
 
 // What becomes of `a`'s call to `b`.

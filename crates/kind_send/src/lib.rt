@@ -22,8 +22,10 @@ use roster_read::standing_of;
 use transit::Contents;
 use transit::Place;
 use transit::Rank;
+use transit::Sequence;
 use transit::Slots;
 use transit::Transit;
+use transit::Value;
 use transit_append::append;
 use transit_count::unread;
 use transit_sent::sent_between;
@@ -36,7 +38,7 @@ fn send_checked(
     receiver: Status,
     line: Connection,
     unread: usize,
-    sent: u32,
+    sent: Sequence,
 ) -> Verdict
     ensures { λ v. ⌜ verdictOf v ≡ judged passed (sendTests a b sender receiver line unread sent) ⌝ }
 {
@@ -82,7 +84,7 @@ fn place_over(line: Connection) -> Place
 pub fn send(
     a: Rank,
     b: Rank,
-    value: u32,
+    value: Value,
     slots: &mut Slots,
     contents: &mut Contents,
     roster: &Roster,

@@ -23,6 +23,7 @@ use roster_write::announce;
 use roster_write::set_drawn;
 use roster_write::set_standing;
 use transit::Rank;
+use transit::Value;
 use verdict::Verdict;
 use verdict::names::is_host;
 use verdict::names::is_rank;
@@ -63,5 +64,5 @@ pub fn start(r: Rank, host: u8, roster: &mut Roster) -> Values
     set_drawn(host, number, roster);
     set_standing(r, Status::Running(vmid), roster);
     announce(r, vmid, roster);
-    Values(host as u32, number as u32, 0)
+    Values(host as Value, number as Value, 0)
 }

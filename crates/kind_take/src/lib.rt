@@ -21,6 +21,7 @@ use transit::Contents;
 use transit::Count;
 use transit::Rank;
 use transit::Slots;
+use transit::Value;
 use transit_count::unread;
 use transit_count::unread_between;
 use transit_remove::remove;
@@ -54,5 +55,6 @@ pub fn take(b: Rank, a: Rank, slots: &mut Slots, contents: &Contents) -> Values
         (now (slots .exit)) (now (contents .entry)) roster) ⌝ }
 {
     let removed = remove(a, b, slots, contents);
-    Values(removed.value, widened(removed.left), removed.sequence)
+    let m = removed.message;
+    Values(m.value, widened(removed.left), m.sequence as Value)
 }

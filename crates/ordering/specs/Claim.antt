@@ -43,7 +43,7 @@ after s (x ∷ xs) = after (stepAt s x .state) xs
 
 -- "A step answered without a refusal number is accepted."
 abbrev pub isAccepted : Answer → Bool
-isAccepted (Accepted v1 v2 v3) = true
+isAccepted (Accepted v) = true
 isAccepted (Refused n) = false
 
 abbrev pub everyAccepted : State → List Reading → Bool
@@ -58,9 +58,9 @@ pub record Entry : Type 0 where
 
 -- the entry of a step that answered so to what stood at its position; only a whole record is ever accepted
 abbrev pub entryOf : Answer → Decoded → List Entry
-entryOf (Accepted v1 v2 v3) (Whole r next) = record { read = r; v1 = v1; v3 = v3 } ∷ []
-entryOf (Accepted v1 v2 v3) Unknown = []
-entryOf (Accepted v1 v2 v3) Cut = []
+entryOf (Accepted v) (Whole r next) = record { read = r; v1 = v .0; v3 = v .2 } ∷ []
+entryOf (Accepted v) Unknown = []
+entryOf (Accepted v) Cut = []
 entryOf (Refused n) d = []
 
 -- the accepted steps of a list, in list order

@@ -7,14 +7,15 @@ use Rattle.transit.specs.declared.Place.{Place}
 use Rattle.transit.specs.declared.Place.the-variants.{SourceList, SourceChannel, EndList, Channel}
 use Rattle.print_page.specs.Ascii.{asciiLines}
 use Rattle.print_page.specs.Text.{decimal}
-use Rattle.transit.specs.Message.{rank}
+use Rattle.transit.specs.Message.{message, rank}
+use Rattle.answer.specs.Answer.{three}
 use Rattle.answer.specs.declared.Answer.the-variants.{Accepted, Refused}
 use Rattle.answer.specs.declared.Refusal.the-variants.{UnknownKind}
 use Rattle.print_lines.specs.Lines.{recordLine, pairLine, pairLines}
 
 -- a message from a to b with a running number, at a place
 abbrev unread : ℕ → ℕ → ℕ → Place → Message
-unread a b n p = record { sender = rank a; receiver = rank b; value = 7; sequence = n; place = p }
+unread a b n p = message (rank a) (rank b) p 7 n
 
 -- in order of sending
 abbrev messages : List Message
@@ -33,7 +34,7 @@ pairs-ascend = refl
 
 -- "kind (two hexadecimal digits, upper case), number (0 when accepted)"
 pub record-lines :
-    recordLine 19 0x0A (Accepted 0 1 0) ++ recordLine 307 0xBF (Refused UnknownKind) ≡
+    recordLine 19 0x0A (Accepted (three 0 1 0)) ++ recordLine 307 0xBF (Refused UnknownKind) ≡
     asciiLines ("19 0A 0 0 1 0" ∷ "307 BF 2 0 0 0" ∷ [])
 unfolding recordLine decimal
 record-lines = refl

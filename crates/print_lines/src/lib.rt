@@ -13,6 +13,7 @@ use print_page::put_four_bytes;
 use print_page::put_four_numbers;
 use print_page::put_hex;
 use print_page::put_two_numbers;
+use transit::Value;
 
 // Position, kind, number, v1, v2, v3. A run calls it at one place, so that it is compiled into its loop.
 pub fn record_line(page: &mut [u8], used: usize, position: u64, kind: u8, answer: Answer) -> usize
@@ -20,10 +21,10 @@ pub fn record_line(page: &mut [u8], used: usize, position: u64, kind: u8, answer
     ensures { λ r. ⌜ Put recordRoom (now (page .entry)) used (recordLine position kind answer) (now (page .exit)) r ⌝ }
 {
     match answer {
-        Answer::Accepted(v1, v2, v3) => {
+        Answer::Accepted(v) => {
             let mut at = put_decimal(page, used, position);
             at = put_hex(page, at, kind);
-            at = put_four_numbers(page, at, 0, v1 as u64, v2 as u64, v3 as u64);
+            at = put_four_numbers(page, at, 0, v.0 as u64, v.1 as u64, v.2 as u64);
             put_byte(page, at, b'\n')
         }
         Answer::Refused(why) => refused_line(page, used, position, kind, why),
@@ -48,10 +49,10 @@ pub fn pair_line(
     used: usize,
     a: u8,
     b: u8,
-    first: u32,
-    second: u32,
-    third: u32,
-    fourth: u32,
+    first: Value,
+    second: Value,
+    third: Value,
+    fourth: Value,
 ) -> usize
     requires { ⌜ used + pairRoom ≤ length (now page) ⌝ }
     ensures { λ r. ⌜ Put pairRoom (now (page .entry)) used (pairLine a b (first ∷ second ∷ third ∷ fourth ∷ [])) (now (page .exit)) r ⌝ }

@@ -21,8 +21,8 @@ pub enum Stop {
     RecordCut,
 }
 
-// Where a run of a piece stands: its position in the piece, how much of the page is used, how many records were run, and why it stops.
-pub struct Standing {
+// Where a run of a piece stopped: its position in the piece, how much of the page is used, how many records were run, and why.
+pub struct Stopped {
     pub at: usize,
     pub used: usize,
     pub steps: usize,
@@ -40,7 +40,7 @@ pub fn run_piece(
     slots: &mut Slots,
     contents: &mut Contents,
     roster: &mut Roster,
-) -> Standing
+) -> Stopped
     requires { ⌜ Desk (now slots) (now contents) (now roster) ⌝ }
     requires { ⌜ base + length (now piece) < 2 ^ 64 ⌝ }
     ensures kept { λ _. ⌜ Desk (now (slots .exit)) (now (contents .exit)) (now (roster .exit)) ⌝ }
@@ -54,7 +54,7 @@ pub fn run_piece(
     let mut steps: usize = 0;
     while at < piece.len() {
         if page.len() - used < ROOM {
-            return Standing {
+            return Stopped {
                 at: at,
                 used: used,
                 steps: steps,
@@ -71,7 +71,7 @@ pub fn run_piece(
                 steps += 1;
             }
             Decoded::Unknown => {
-                return Standing {
+                return Stopped {
                     at: at,
                     used: used,
                     steps: steps,
@@ -79,7 +79,7 @@ pub fn run_piece(
                 };
             }
             Decoded::Cut => {
-                return Standing {
+                return Stopped {
                     at: at,
                     used: used,
                     steps: steps,
@@ -88,7 +88,7 @@ pub fn run_piece(
             }
         }
     }
-    Standing {
+    Stopped {
         at: at,
         used: used,
         steps: steps,

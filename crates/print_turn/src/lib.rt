@@ -86,10 +86,10 @@ pub fn turn(
             next: Next::TooLong,
         };
     }
-    let standing = run_piece(&buffer[..held], base, page, slots, contents, roster);
-    let at = standing.at;
-    let used = standing.used;
-    let stop = standing.stop;
+    let stopped = run_piece(&buffer[..held], base, page, slots, contents, roster);
+    let at = stopped.at;
+    let used = stopped.used;
+    let stop = stopped.stop;
     let kept = keep_rest(buffer, at, held);
     let further = base + at as u64;
     let next = next_of(stop, done);

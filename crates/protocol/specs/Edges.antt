@@ -27,7 +27,7 @@ refuses log n = record { log = log; fits = λ a. eqb (number a) n }
 
 -- accepted, with these values
 abbrev pub gives : ℕ → ℕ → ℕ → Answer → Bool
-gives v1 v2 v3 (Accepted w1 w2 w3) = eqb w1 v1 && eqb w2 v2 && eqb w3 v3
+gives v1 v2 v3 (Accepted w) = eqb (w .0) v1 && eqb (w .1) v2 && eqb (w .2) v3
 gives v1 v2 v3 (Refused n) = false
 
 abbrev pub answers : List ℕ → ℕ → ℕ → ℕ → Try

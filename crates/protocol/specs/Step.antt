@@ -47,7 +47,7 @@ pub record Settlement : Type 0 where
 -- "A refusal leaves the state lent for a step unchanged, v1 to v3 zero."
 abbrev pub onRefusal : Option Refusal → Done → State → Settlement
 onRefusal (some n) d s = record { answer = Refused n; state = s }
-onRefusal none d s = record { answer = Accepted (d .v1) (d .v2) (d .v3); state = d .state }
+onRefusal none d s = record { answer = Accepted (d .values); state = d .state }
 
 -- by the first check that applies
 unfoldable pub settle : Rank → Record → State → Settlement

@@ -8,6 +8,7 @@ ghost use Rattle.record.specs.Record.{isKind, bodyLength, numberAt, reco
 use crate::Decoded;
 use crate::Record;
 use transit::Rank;
+use transit::Value;
 
 // How many kinds there are: 01 to 0C.
 const KINDS: u8 = 12;
@@ -59,7 +60,7 @@ fn record_of(kind: u8, body: &[u8]) -> Record
         1 => Record::Start(a, second),
         2 => Record::Call(a, b),
         3 => Record::Route(a, b),
-        4 => Record::Send(a, b, value_at(body, 2)),
+        4 => Record::Send(a, b, value_at(body, 2) as Value),
         5 => Record::Take(a, b),
         6 => Record::Move(a, second),
         7 => Record::Heed(a, b),

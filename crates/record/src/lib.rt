@@ -1,5 +1,6 @@
 // The records of the step log. Paper 01, "The step log".
 use transit::Rank;
+use transit::Value;
 
 pub mod decode;
 
@@ -8,7 +9,7 @@ pub enum Record {
     Start(Rank, u8),
     Call(Rank, Rank),
     Route(Rank, Rank),
-    Send(Rank, Rank, u32),
+    Send(Rank, Rank, Value),
     Take(Rank, Rank),
     Move(Rank, u8),
     Heed(Rank, Rank),

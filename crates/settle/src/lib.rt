@@ -23,9 +23,6 @@ pub fn settle(
     let verdict = judge(read, slots, contents, roster);
     match verdict {
         Verdict::Failed(n) => Answer::Refused(n),
-        Verdict::Passed => {
-            let values = apply(read, slots, contents, roster);
-            Answer::Accepted(values.0, values.1, values.2)
-        }
+        Verdict::Passed => { Answer::Accepted(apply(read, slots, contents, roster)) }
     }
 }

@@ -5,7 +5,7 @@ use mathlib.Core.List.{List, [], _∷_}
 use Prim.Native.Nat.{ℕ}
 use lib.Dec.{leb, ltb}
 use lib.ListN.{getD, set, replicate}
-use Rattle.transit.specs.Message.{number, samePlace, cells}
+use Rattle.transit.specs.Message.{placeIndex, samePlace, cells}
 use Rattle.transit.specs.Unread.{Unread, limit}
 use Rattle.transit.specs.declared.Message.{Message}
 use Rattle.transit.specs.declared.Place.{Place}
@@ -59,7 +59,7 @@ within most k last n = ltb last n && leb n (getD most k 0)
 
 -- each message by itself, and "Within a pair, places never fall along the order of sending."
 abbrev pub placesRise : List Process → List Link → Unread → Bool
-placesRise ps ls u = rises (messageSoundAt ps ls) notBelow pairOf number (replicate cells 0) (u .messages)
+placesRise ps ls u = rises (messageSoundAt ps ls) notBelow pairOf placeIndex (replicate cells 0) (u .messages)
 
 -- Paper 02, change 4: "Sound pairs have unread numbers rising within 1 to the count sent."
 abbrev pub numbersRise : Unread → Bool

@@ -12,6 +12,7 @@ use transit::CELLS;
 use transit::Message;
 use transit::Place;
 use transit::RANKS;
+use transit::Sequence;
 use transit::Transit;
 
 // The message is from a rank to another rank.
@@ -60,7 +61,7 @@ pub fn messages_sound(processes: [Process; RANKS], links: [Link; CELLS], t: Tran
     let mut last = [0u8; CELLS];
     // The running number of each pair's last message, and 0 where it had none yet. Paper 02, change 4: "Sound pairs have unread numbers
     // rising within 1 to the count sent."
-    let mut numbers = [0u32; CELLS];
+    let mut numbers: [Sequence; CELLS] = [0; CELLS];
     let mut i: usize = 0;
     while i < count {
         let m = t.messages[i];

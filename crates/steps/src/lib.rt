@@ -46,7 +46,7 @@ pub fn step(broker: Broker, log: &[u8], at: usize) -> Outcome
             answer: answer,
             next: next,
         },
-        Answer::Accepted(_, _, _) => {
+        Answer::Accepted(_) => {
             let after = unload(broker, &slots, &contents, &roster);
             Outcome {
                 broker: after,

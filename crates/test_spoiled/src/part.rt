@@ -10,6 +10,8 @@ use broker::process::Vmid;
 use transit::Message;
 use transit::Place;
 use transit::Rank;
+use transit::Sequence;
+use transit::Value;
 
 fn rank(n: u64) -> Rank {
     Rank((n % 256) as u8)
@@ -76,16 +78,16 @@ fn place(n: u64) -> Place {
     }
 }
 
-pub fn running_number(n: u64) -> u32 {
-    (n % 4294967296) as u32
+pub fn running_number(n: u64) -> Sequence {
+    (n % 4294967296) as Sequence
 }
 
 pub fn message(sender: u64, receiver: u64, at: u64, value: u64, sequence: u64) -> Message {
-    Message {
-        sender: rank(sender),
-        receiver: rank(receiver),
-        place: place(at),
-        value: (value % 4294967296) as u32,
-        sequence: running_number(sequence),
-    }
+    Message::new(
+        rank(sender),
+        rank(receiver),
+        place(at),
+        (value % 4294967296) as Value,
+        running_number(sequence),
+    )
 }

@@ -7,6 +7,7 @@ use mir.Val.{Val}
 use denote.Laws.{Is}
 use denote.Struct
 use Rattle.transit.proofs.Transit.{the-type}
+use Rattle.transit.specs.Message.{message, rank}
 use Rattle.transit.specs.declared.Message.{Message}
 use Rattle.transit.specs.declared.Place.the-variants.{SourceList}
 use Rattle.transit.specs.declared.Transit.{Transit}
@@ -17,4 +18,4 @@ slots t vs good = rw length-map at (good .1 .1 .0 .1 .0 .1)
 
 -- What a read past the slots would give.
 abbrev pub blank : Message
-blank = record { sender = record { 0 = 0 }; receiver = record { 0 = 0 }; value = 0; sequence = 0; place = SourceList }
+blank = message (rank 0) (rank 0) SourceList 0 0

@@ -9,18 +9,8 @@ use Rattle.transit.specs.Index.{Index}
 use Rattle.base.specs.Lists.{select, tally, without}
 use Rattle.transit.specs.Message.{between, picks, cells}
 use Rattle.transit.specs.Slots.{messagesOf}
-use Rattle.transit.specs.Unread.{
-  Unread,
-  counted,
-  nextMessage,
-  oneMore,
-  limit,
-  head,
-  valueIn,
-  sequenceIn,
-  eachTo,
-  firstTo,
-}
+use Rattle.transit.specs.Unread.{Unread, counted, nextMessage, oneMore, limit, head, eachTo, firstTo}
+use Rattle.transit.specs.declared.Found.the-variants.{First}
 use Rattle.transit.specs.declared.Message.{Message}
 use Rattle.transit.specs.declared.Place.{Place}
 use Rattle.transit.specs.declared.Rank.{Rank}
@@ -72,12 +62,11 @@ pub record Appended (a b : Rank) (p : Place) (v : ℕ) (slots contents : List �
   pub pair : n ≡ tally (between a b) (messagesIn slots' contents')
   pub counts : sentIn contents' ≡ oneMore a b (sentIn contents)
 
--- the first message of the pair has left: its value, its running number, and how many of the pair are left
-pub record Left (a b : Rank) (slots contents : List ℕ) (value sequence rest : ℕ) (slots' : List ℕ) : Type 0 where
+-- the first message of the pair has left, and how many of the pair are left
+pub record Left (a b : Rank) (slots contents : List ℕ) (m : Message) (rest : ℕ) (slots' : List ℕ) : Type 0 where
   pub kept : Mail slots' contents
   pub same : messagesIn slots' contents ≡ without (between a b) (messagesIn slots contents)
-  pub found : value ≡ valueIn (head (select (between a b) (messagesIn slots contents)))
-  pub numbered : sequence ≡ sequenceIn (head (select (between a b) (messagesIn slots contents)))
+  pub found : head (select (between a b) (messagesIn slots contents)) ≡ First m
   pub pair : rest ≡ tally (between a b) (messagesIn slots' contents)
 
 -- the selected messages, n of them, are at the place

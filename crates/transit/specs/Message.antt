@@ -30,6 +30,10 @@ isRank r = ltb (r .0) ranks
 abbrev pub pairOf : Rank → Rank → ℕ
 pairOf a b = ranks * a .0 + b .0
 
+-- a message from a to b at a place, with its value and its running number
+abbrev pub message : Rank → Rank → Place → ℕ → ℕ → Message
+message a b p v n = record { sender = a; receiver = b; place = p; value = v; sequence = n }
+
 -- "a place: 0 mover's list, 1 lane to the mover, 2 list of the current end, 3 lane to the current end"
 abbrev pub placeNumber : Place → ℕ
 placeNumber SourceList = 0
@@ -38,8 +42,8 @@ placeNumber EndList = 2
 placeNumber Channel = 3
 
 -- the number of a message's place
-abbrev pub number : Message → ℕ
-number m = placeNumber (m .place)
+abbrev pub placeIndex : Message → ℕ
+placeIndex m = placeNumber (m .place)
 
 -- the same place
 abbrev pub samePlace : Place → Place → Bool
@@ -63,7 +67,7 @@ between a b m = sameRank (m .sender) a && to b m
 
 -- the same message at another place
 abbrev pub relabelled : Place → Message → Message
-relabelled p m = record { sender = m .sender; receiver = m .receiver; value = m .value; sequence = m .sequence; place = p }
+relabelled p m = message (m .sender) (m .receiver) p (m .value) (m .sequence)
 
 -- the messages that a selection picks
 abbrev pub picks : Selection → Message → Bool

@@ -6,7 +6,7 @@ use Prim.Native.Nat.{ℕ, suc, _+_, _/_, _%_}
 use lib.Dec.{eqb, ltb}
 use lib.ListN.{getD}
 use Rattle.transit.specs.Columns.{Columns, SEQUENCES}
-use Rattle.transit.specs.Message.{ranks, cells}
+use Rattle.transit.specs.Message.{message, rank, ranks, cells}
 use Rattle.transit.specs.declared.Message.{Message}
 use Rattle.transit.specs.declared.Place.{Place}
 use Rattle.transit.specs.declared.Place.the-variants.{SourceList, SourceChannel, EndList, Channel}
@@ -22,13 +22,7 @@ placeOf n = cond (eqb n 0) SourceList (cond (eqb n 1) SourceChannel (cond (eqb n
 
 -- the message of a pair, at the place of a number, with a value and a running number
 abbrev pub messageOf : ℕ → ℕ → ℕ → ℕ → Message
-messageOf p n v k = record {
-  sender = record { 0 = p / ranks };
-  receiver = record { 0 = p % ranks };
-  place = placeOf n;
-  value = v;
-  sequence = k;
-}
+messageOf p n v k = message (rank (p / ranks)) (rank (p % ranks)) (placeOf n) v k
 
 -- the message of a slot of a pair
 abbrev pub messageAt : List ℕ → List ℕ → ℕ → ℕ → Message

@@ -6,7 +6,7 @@ use Prim.Native.Nat.{ℕ, _+_}
 use lib.Dec.{ltb}
 use lib.ListN.{length, take, getD, set, replicate}
 use Rattle.base.specs.Lists.{select, without, changeFirst, changeEach}
-use Rattle.transit.specs.Message.{picks, placeOrder, relabelled, at, pairOf, cells}
+use Rattle.transit.specs.Message.{message, picks, placeOrder, relabelled, at, pairOf, cells}
 use Rattle.transit.specs.declared.Found.{Found}
 use Rattle.transit.specs.declared.Found.the-variants.{First, Nothing}
 use Rattle.transit.specs.declared.Message.{Message}
@@ -48,7 +48,7 @@ oneMore a b counts = set counts (pairOf a b) (sentAt a b counts + 1)
 
 -- Paper 02, change 4: "The number of a message within its ordered pair, from 1 in order of sending, is now kept with the message"
 abbrev pub nextMessage : Rank → Rank → Place → ℕ → List ℕ → Message
-nextMessage a b p v counts = record { sender = a; receiver = b; place = p; value = v; sequence = sentAt a b counts + 1 }
+nextMessage a b p v counts = message a b p v (sentAt a b counts + 1)
 
 -- "when the pair has already sent 4,294,967,295"
 abbrev pub mostSent : ℕ

@@ -7,6 +7,8 @@ use crate::Message;
 use crate::Place;
 use crate::RANKS;
 use crate::Rank;
+use crate::Sequence;
+use crate::Value;
 
 // How many slots there are.
 pub const SLOTS: usize = 2048;
@@ -75,18 +77,11 @@ fn place_of(n: u16) -> Place
 }
 
 // The message of a slot of a pair.
-pub fn message_of(pair: u16, place: u16, value: u32, sequence: u32) -> Message
+pub fn message_of(pair: u16, place: u16, value: Value, sequence: Sequence) -> Message
     requires { ⌜ pair < cells ⌝ }
     ensures { λ r. ⌜ r ≡ messageOf pair place value sequence ⌝ }
 {
     let from = (pair / ROW) as u8;
     let to = (pair % ROW) as u8;
-    let at = place_of(place);
-    Message {
-        sender: Rank(from),
-        receiver: Rank(to),
-        value: value,
-        sequence: sequence,
-        place: at,
-    }
+    Message::new(Rank(from), Rank(to), place_of(place), value, sequence)
 }

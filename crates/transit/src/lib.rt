@@ -1,7 +1,7 @@
 // The unread messages of a broker: one list in order of sending, each message with its place and its running number.
 // Paper 01: "The places of messages are kept by a lower part that knows no step kinds." This crate is that part.
 ghost use mathlib.Core.Path.{_≡_};
-ghost use Rattle.transit.specs.Message.{placeNumber};
+ghost use Rattle.transit.specs.Message.{message, placeNumber};
 ghost use Rattle.transit.specs.Unread.{unreadOf, nothing};
 
 pub mod layout;
@@ -25,6 +25,12 @@ pub const CONTENTS_LENGTH: usize = 4352;
 // 16 bits."
 pub type Count = u16;
 
+// A message's value, and v1 to v3 of an answer.
+pub type Value = u32;
+
+// A message's running number, and how many messages a pair has sent.
+pub type Sequence = u32;
+
 // Where an unread message is held: paper 01's places 0 to 3, in this order.
 pub enum Place {
     // 0, the mover's list: already read from the channel by the source process of a migration.
@@ -43,8 +49,8 @@ pub struct Message {
     pub sender: Rank,
     pub receiver: Rank,
     pub place: Place,
-    pub value: u32,
-    pub sequence: u32,
+    pub value: Value,
+    pub sequence: Sequence,
 }
 
 // Which messages a routine is about.
@@ -66,7 +72,7 @@ pub enum Found {
 pub struct Transit {
     pub messages: [Message; Transit::LIMIT],
     pub count: usize,
-    pub sent: [u32; CELLS],
+    pub sent: [Sequence; CELLS],
 }
 
 // The messages as a run works on them: 2,048 slots in order of sending, of which those are dead whose message has left. The columns
@@ -95,24 +101,33 @@ impl Place {
     }
 }
 
+impl Message {
+    // A message from `sender` to `receiver` at a place, with its value and its running number.
+    pub fn new(sender: Rank, receiver: Rank, place: Place, value: Value, sequence: Sequence) -> Self
+        ensures { λ r. ⌜ r ≡ message sender receiver place value sequence ⌝ }
+    {
+        Message {
+            sender: sender,
+            receiver: receiver,
+            place: place,
+            value: value,
+            sequence: sequence,
+        }
+    }
+}
+
 impl Transit {
     // Paper 01: "At most 1,024 are unread in the whole desk."
     pub const LIMIT: usize = 1024;
 
     // Paper 02, change 4: "28 for a send when the pair has already sent 4,294,967,295".
-    pub const MOST_SENT: u32 = 4294967295;
+    pub const MOST_SENT: Sequence = 4294967295;
 
     // Nothing sent yet.
     pub fn fresh() -> Self
         ensures { λ r. ⌜ unreadOf r ≡ nothing ⌝ }
     {
-        let unused = Message {
-            sender: Rank(0),
-            receiver: Rank(0),
-            value: 0,
-            sequence: 0,
-            place: Place::EndList,
-        };
+        let unused = Message::new(Rank(0), Rank(0), Place::EndList, 0, 0);
         Transit {
             messages: [unused; Transit::LIMIT],
             count: 0,

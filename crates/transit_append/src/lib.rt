@@ -11,6 +11,7 @@ use transit::Message;
 use transit::Place;
 use transit::Rank;
 use transit::Slots;
+use transit::Value;
 use transit::layout::NONE;
 use transit::layout::TAIL;
 use transit_load::load;
@@ -36,7 +37,7 @@ pub fn append(
     a: Rank,
     b: Rank,
     place: Place,
-    value: u32,
+    value: Value,
     slots: &mut Slots,
     contents: &mut Contents,
 ) -> Count
@@ -50,15 +51,6 @@ pub fn append(
 {
     make_room(slots, contents);
     let sequence = count_one(a, b, contents);
-    put(
-        Message {
-            sender: a,
-            receiver: b,
-            place: place,
-            value: value,
-            sequence: sequence,
-        },
-        slots,
-        contents,
-    )
+    let sent = Message::new(a, b, place, value, sequence);
+    put(sent, slots, contents)
 }

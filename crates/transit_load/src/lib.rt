@@ -11,6 +11,7 @@ ghost use Rattle.transit.specs.Slots.{ranked};
 ghost use Rattle.transit.specs.Unread.{unreadOf, limit};
 use transit::CELLS;
 use transit::Contents;
+use transit::Sequence;
 use transit::Slots;
 use transit::Transit;
 use transit::layout::COUNT;
@@ -49,7 +50,7 @@ fn empty(slots: &mut Slots)
 }
 
 // No message is unread, and each pair has sent as many as the counts say.
-pub fn clear(counts: [u32; CELLS], slots: &mut Slots, contents: &mut Contents)
+pub fn clear(counts: [Sequence; CELLS], slots: &mut Slots, contents: &mut Contents)
     requires { ⌜ length (now slots) ≡ slotsLength ⌝ }
     requires { ⌜ length (now contents) ≡ contentsLength ⌝ }
     ensures { λ _. ⌜ Loaded [] counts (now (slots .exit)) (now (contents .exit)) ⌝ }

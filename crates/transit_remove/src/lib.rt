@@ -5,20 +5,22 @@ ghost use Rattle.transit.specs.Mail.{Mail, messagesIn, Left};
 ghost use Rattle.transit.specs.Message.{between, ranks};
 use transit::Contents;
 use transit::Count;
+use transit::Message;
 use transit::Rank;
 use transit::Slots;
 use transit::layout::COUNT;
 use transit::layout::DEAD;
 use transit::layout::FIRST;
 use transit::layout::NEXT;
+use transit::layout::PLACES;
 use transit::layout::SEQUENCES;
 use transit::layout::UNREAD;
+use transit::layout::message_of;
 use transit::layout::pair_of;
 
-// The value and the running number of the message that left, and how many of its pair are left.
+// The message that left, and how many of its pair are left.
 pub struct Removed {
-    pub value: u32,
-    pub sequence: u32,
+    pub message: Message,
     pub left: Count,
 }
 
@@ -28,13 +30,17 @@ pub fn remove(a: Rank, b: Rank, slots: &mut Slots, contents: &Contents) -> Remov
     requires { ⌜ a .0 < ranks ⌝ }
     requires { ⌜ b .0 < ranks ⌝ }
     requires { ⌜ 0 < tally (between a b) (messagesIn (now slots) (now contents)) ⌝ }
-    ensures { λ r. ⌜ Left a b (now (slots .entry)) (now (contents .entry)) (r .value) (r .sequence) (r .left)
+    ensures { λ r. ⌜ Left a b (now (slots .entry)) (now (contents .entry)) (r .message) (r .left)
         (now (slots .exit)) ⌝ }
 {
     let pair = pair_of(a, b);
     let at = slots[FIRST + pair] as usize;
-    let value = contents[at];
-    let sequence = contents[SEQUENCES + at];
+    let message = message_of(
+        slots[at],
+        slots[PLACES + at],
+        contents[at],
+        contents[SEQUENCES + at],
+    );
     let next = slots[NEXT + at];
     let left = slots[COUNT + pair] - 1;
     let unread = slots[UNREAD] - 1;
@@ -43,8 +49,7 @@ pub fn remove(a: Rank, b: Rank, slots: &mut Slots, contents: &Contents) -> Remov
     slots[COUNT + pair] = left;
     slots[UNREAD] = unread;
     Removed {
-        value: value,
-        sequence: sequence,
+        message: message,
         left: left,
     }
 }

@@ -10,11 +10,12 @@ use transit::CELLS;
 use transit::Contents;
 use transit::RANKS;
 use transit::Rank;
+use transit::Sequence;
 use transit::layout::SENT;
 use transit::layout::pair_of;
 
 // How many messages `a` has sent to `b`.
-pub fn sent_between(a: Rank, b: Rank, contents: &Contents) -> u32
+pub fn sent_between(a: Rank, b: Rank, contents: &Contents) -> Sequence
     ensures { λ r. ⌜ (length (now (contents .entry)) ≡ contentsLength → r ≡ sentAt a b (sentIn (now (contents .entry)))) ⌝ }
 {
     let pair = RANKS * (a.0 as usize) + (b.0 as usize);
@@ -25,7 +26,7 @@ pub fn sent_between(a: Rank, b: Rank, contents: &Contents) -> u32
 }
 
 // The pair has sent one more; how many then.
-pub fn count_one(a: Rank, b: Rank, contents: &mut Contents) -> u32
+pub fn count_one(a: Rank, b: Rank, contents: &mut Contents) -> Sequence
     requires { ⌜ length (now contents) ≡ contentsLength ⌝ }
     requires { ⌜ a .0 < ranks ⌝ }
     requires { ⌜ b .0 < ranks ⌝ }
@@ -39,7 +40,7 @@ pub fn count_one(a: Rank, b: Rank, contents: &mut Contents) -> u32
 }
 
 // The counts as they are handed over stand in the contents.
-pub fn keep_counts(counts: [u32; CELLS], contents: &mut Contents)
+pub fn keep_counts(counts: [Sequence; CELLS], contents: &mut Contents)
     requires { ⌜ length (now contents) ≡ contentsLength ⌝ }
     ensures { λ _. ⌜ Kept counts (now (contents .exit)) ⌝ }
 {
@@ -51,10 +52,10 @@ pub fn keep_counts(counts: [u32; CELLS], contents: &mut Contents)
 }
 
 // The counts as they are handed over.
-pub fn counts_in(contents: &Contents) -> [u32; CELLS]
+pub fn counts_in(contents: &Contents) -> [Sequence; CELLS]
     ensures { λ r. ⌜ (length (now (contents .entry)) ≡ contentsLength → r ≡ sentIn (now (contents .entry))) ⌝ }
 {
-    let mut counts = [0u32; CELLS];
+    let mut counts: [Sequence; CELLS] = [0; CELLS];
     let mut p: usize = 0;
     while p < CELLS {
         counts[p] = contents[SENT + p];

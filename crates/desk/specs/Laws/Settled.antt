@@ -24,11 +24,11 @@ module _ (r : Record) (s : State) (v : Verdict) (judged : Judges r s v) (named :
   -- a verdict that passes: what the record does
   pub settle-accepted :
       (w : Values) (s' : State) → v ≡ Passed → Does (apply named r) s w s' →
-      _≡_ {A = Settlement} (record { answer = Accepted (w .0) (w .1) (w .2); state = s' }) (settle named r s)
+      _≡_ {A = Settlement} (record { answer = Accepted w; state = s' }) (settle named r s)
   unfolding settle
   settle-accepted w s' e does =
       let h : refusal s r ≡ none = sym judged ∙ ap verdictOf e in
-      rw h (ap (λ (d : Done). record { answer = Accepted (d .v1) (d .v2) (d .v3); state = d .state }) does)
+      rw h (ap (λ (d : Done). record { answer = Accepted (d .values); state = d .state }) does)
 
 -- no check applies where the verdict passes
 pub nothing-applies : (r : Record) (s : State) (v : Verdict) → Judges r s v → v ≡ Passed → refusal s r ≡ none

@@ -7,8 +7,8 @@ use Rattle.kind_take.proofs.take.Tie as tie
 
 returns : tie.Need-returns
 returns c = λ roster whole.
-    let left = c .before .remove .ensures in
-    let start = c .before .before .before in
+    let left = c .before .before .remove .ensures in
+    let start = c .before .before .before .before in
     let ranks-in = start .pre .1 .0 in
     record {
       kept = record { mail = left .kept; long = whole };

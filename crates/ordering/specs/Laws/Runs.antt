@@ -24,7 +24,7 @@ fresh-sound = true-of (sound fresh) fresh-is-sound
 
 -- the entry of an accepted record
 abbrev pub entry : Rank → Record → State → Entry
-entry named r s = record { read = r; v1 = apply named r s .v1; v3 = apply named r s .v3 }
+entry named r s = record { read = r; v1 = apply named r s .values .0; v3 = apply named r s .values .2 }
 
 -- What one entry adds in front.
 pub sent-cons : (a b : Rank) (e : Entry) (es : List Entry) → sent a b (e ∷ es) ≡ sent a b (e ∷ []) ++ sent a b es

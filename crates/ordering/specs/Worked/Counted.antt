@@ -5,7 +5,7 @@ use mathlib.Core.Bool.{true, false}
 use mathlib.Core.List.{List, [], _∷_, _++_, map}
 use Prim.Native.Nat.{ℕ, _+_}
 use lib.ListN.{length, replicate}
-use Rattle.transit.specs.Message.{rank}
+use Rattle.transit.specs.Message.{message, rank}
 use Rattle.transit.specs.Unread.{counted}
 use Rattle.transit.specs.declared.Message.{Message}
 use Rattle.transit.specs.declared.Place.{Place}
@@ -15,6 +15,7 @@ use Rattle.broker.specs.Names.{vmid}
 use Rattle.broker.specs.Ranks.{everyRank}
 use Rattle.record.specs.Record.{decode, recordOf}
 use Rattle.broker.specs.State.{State, idle, fresh, withStatus, withUnread}
+use Rattle.answer.specs.Answer.{three}
 use Rattle.answer.specs.declared.Answer.the-variants.{Accepted, Refused}
 use Rattle.answer.specs.declared.Refusal.the-variants.{NotConnected}
 use Rattle.broker.specs.declared.process.Status.the-variants.{Running, Migrating, Ended}
@@ -48,20 +49,20 @@ record-of-every-kind-is-read-as-written = refl
 
 -- Accepted steps.
 
-pub answer-without-a-number-is-accepted : isAccepted (Accepted 0 0 0) ≡ true
+pub answer-without-a-number-is-accepted : isAccepted (Accepted (three 0 0 0)) ≡ true
 answer-without-a-number-is-accepted = refl
 
 pub refusal-is-not-accepted : isAccepted (Refused NotConnected) ≡ false
 refusal-is-not-accepted = refl
 
 pub accepted-record-enters-with-v1-and-v3 :
-    entryOf (Accepted 1 2 3) (Whole (Send (rank 0) (rank 1) 7) 7) ≡ did (Send (rank 0) (rank 1) 7) 1 3 ∷ []
+    entryOf (Accepted (three 1 2 3)) (Whole (Send (rank 0) (rank 1) 7) 7) ≡ did (Send (rank 0) (rank 1) 7) 1 3 ∷ []
 accepted-record-enters-with-v1-and-v3 = refl
 
 pub refused-record-does-not-enter : entryOf (Refused NotConnected) (Whole (Send (rank 0) (rank 1) 7) 7) ≡ []
 refused-record-does-not-enter = refl
 
-pub no-record-does-not-enter : entryOf (Accepted 1 2 3) Unknown ++ entryOf (Accepted 1 2 3) Cut ≡ []
+pub no-record-does-not-enter : entryOf (Accepted (three 1 2 3)) Unknown ++ entryOf (Accepted (three 1 2 3)) Cut ≡ []
 no-record-does-not-enter = refl
 
 -- A send before a line stands is refused and does not count; the next one does. Then rank 1 looks, and the look names the sender.
@@ -87,7 +88,7 @@ early-result =
           did (Send (rank 3) (rank 1) 6) 1 0 ∷
           did (Look (rank 1)) 3 0 ∷ [];
       processes = idle ∷ process (Running (vmid 1 1)) ∷ idle ∷ process (Running (vmid 0 1)) ∷ replicate 12 idle;
-      holds = record { sender = rank 3; receiver = rank 1; value = 6; sequence = 1; place = Channel } ∷ [];
+      holds = message (rank 3) (rank 1) Channel 6 1 ∷ [];
     }
 
 pub early-comes-to : result early ≡ early-result
@@ -152,7 +153,7 @@ numbers-taken-back = refl
 
 -- unread messages of this pair at each place, sent in the opposite order, with some of other pairs; no sound state has them so
 abbrev letter : ℕ → ℕ → ℕ → Place → Message
-letter a b v p = record { sender = rank a; receiver = rank b; value = v; sequence = v + 1; place = p }
+letter a b v p = message (rank a) (rank b) p v (v + 1)
 
 abbrev jumbled : State
 jumbled =

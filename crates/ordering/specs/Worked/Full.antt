@@ -9,7 +9,7 @@ use lib.ListN.{replicate, set, length-map}
 use Rattle.base.specs.Laws.Numbers.{upFrom-long, upFrom-append}
 use Rattle.base.specs.Lists.{select, upFrom}
 use Rattle.transit.specs.Laws.Operations.{appends}
-use Rattle.transit.specs.Message.{rank, between, pairOf}
+use Rattle.transit.specs.Message.{message, rank, between, pairOf}
 use Rattle.transit.specs.Unread.{Unread, AfterAppend, limit, nothing}
 use Rattle.transit.specs.declared.Message.{Message}
 use Rattle.transit.specs.declared.Place.the-variants.{Channel}
@@ -47,15 +47,15 @@ joined = computed (readings joining) .end
 abbrev sending : Reading
 sending = whole (written (Send (rank 0) (rank 1) 7))
 
-abbrev message : ℕ → Message
-message k = record { sender = rank 0; receiver = rank 1; value = 7; sequence = k; place = Channel }
+abbrev letter : ℕ → Message
+letter k = message (rank 0) (rank 1) Channel 7 k
 
 -- the two ranks with so many messages sent and unread
 abbrev mail : ℕ → List Message → Unread
 mail n l = record { messages = l; count = n; sent = set (nothing .sent) (pairOf (rank 0) (rank 1)) n }
 
 abbrev laden : ℕ → State
-laden n = withUnread (mail n (map message (upFrom 1 n))) joined
+laden n = withUnread (mail n (map letter (upFrom 1 n))) joined
 
 -- A send can be made while fewer than 1,024 are unread.
 send-fits : (n : ℕ) → n < limit → SendFits (laden n) (rank 0) (rank 1)
@@ -70,11 +70,11 @@ send-fits n room =
     }
 
 -- The next message is behind those before it.
-one-message : (n : ℕ) → map message (upFrom 1 n) ++ message (n + 1) ∷ [] ≡ map message (upFrom 1 (n + 1))
+one-message : (n : ℕ) → map letter (upFrom 1 n) ++ letter (n + 1) ∷ [] ≡ map letter (upFrom 1 (n + 1))
 unfolding upFrom
 one-message n =
     let next : 1 + n ≡ n + 1 = omega arith in
-    sym (map-append message (upFrom 1 n) (upFrom (n + 1) 1)) ∙ ap (map message) (rw next at (upFrom-append 1 n 1))
+    sym (map-append letter (upFrom 1 n) (upFrom (n + 1) 1)) ∙ ap (map letter) (rw next at (upFrom-append 1 n 1))
 
 -- One more message is unread after a send.
 one-more : (n : ℕ) → n < limit → sound (laden n) ≡ true → stepAt (laden n) sending .state ≡ laden (n + 1)
@@ -112,9 +112,9 @@ leaves n room =
     ap (λ (s : State). after s (replicate n sending)) begins ∙ fills n 0 (omega arith) start ∙ ap laden sum
 
 -- All of them are of the pair.
-of-the-pair : (l : List ℕ) → select (between (rank 0) (rank 1)) (map message l) ≡ map message l
+of-the-pair : (l : List ℕ) → select (between (rank 0) (rank 1)) (map letter l) ≡ map letter l
 of-the-pair [] = refl
-of-the-pair (k ∷ l) = ap (λ (ms : List Message). message k ∷ ms) (of-the-pair l)
+of-the-pair (k ∷ l) = ap (λ (ms : List Message). letter k ∷ ms) (of-the-pair l)
 
 -- After so many sends, up to 1,024, the pair has as many unread.
 pub counts-them-all : (n : ℕ) → n ≤ limit → unreadBetween (rank 0) (rank 1) (after fresh (filling n)) ≡ n

@@ -7,7 +7,7 @@ use lib.ListN.{replicate}
 use Rattle.transit.specs.declared.Place.the-variants.{EndList, Channel}
 use Rattle.record.specs.Kind
 use Rattle.broker.specs.Names.{vmid}
-use Rattle.transit.specs.Message.{rank}
+use Rattle.transit.specs.Message.{message, rank}
 use Rattle.broker.specs.State.{idle}
 use Rattle.broker.specs.declared.process.Status.the-variants.{Running}
 use Rattle.record.specs.declared.Record.the-variants.{Start, Call, Route, Send, Take, Move, Heed, Drain, Land}
@@ -68,8 +68,8 @@ listing-result =
           did (Take (rank 1) (rank 0)) 500 1 ∷ [];
       processes = process (Running (vmid 0 1)) ∷ process (Running (vmid 2 1)) ∷ replicate 14 idle;
       holds =
-          record { sender = rank 0; receiver = rank 1; value = 501; sequence = 2; place = EndList } ∷
-          record { sender = rank 0; receiver = rank 1; value = 502; sequence = 3; place = Channel } ∷ [];
+          message (rank 0) (rank 1) EndList 501 2 ∷
+          message (rank 0) (rank 1) Channel 502 3 ∷ [];
     }
 
 pub listing-comes-to : result listing ≡ listing-result

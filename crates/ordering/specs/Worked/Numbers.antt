@@ -5,7 +5,7 @@ use mathlib.Core.List.{List, [], _∷_, _++_, map}
 use Prim.Native.Nat.{ℕ}
 use lib.ListN.{replicate, take}
 use Rattle.base.specs.Lists.{upFrom}
-use Rattle.transit.specs.Message.{rank}
+use Rattle.transit.specs.Message.{message, rank}
 use Rattle.transit.specs.declared.Message.{Message}
 use Rattle.transit.specs.declared.Place.{Place}
 use Rattle.transit.specs.declared.Place.the-variants.{SourceList, SourceChannel, EndList}
@@ -68,7 +68,7 @@ abbrev run : List Reading
 run = readings until-both-move ++ refused ++ readings until-they-part
 
 abbrev letter : ℕ → ℕ → ℕ → ℕ → Place → Message
-letter a b v k p = record { sender = rank a; receiver = rank b; value = v; sequence = k; place = p }
+letter a b v k p = message (rank a) (rank b) p v k
 
 -- when both moves are open: the messages on the lanes keep the numbers with which they were sent
 pub both-are-open :

@@ -6,7 +6,7 @@ use mathlib.Core.List.{List, [], _∷_}
 use mathlib.Core.Option.{none}
 use Prim.Native.Nat.{ℕ}
 use lib.ListN.{replicate}
-use Rattle.transit.specs.Message.{rank}
+use Rattle.transit.specs.Message.{message, rank}
 use Rattle.transit.specs.declared.Place.the-variants.{EndList}
 use Rattle.broker.specs.Names.{vmid}
 use Rattle.broker.specs.State.{idle, fresh}
@@ -73,7 +73,7 @@ landed v w es =
     record {
       steps = es;
       processes = process (Running v) ∷ process (Running w) ∷ replicate 14 idle;
-      holds = record { sender = rank 1; receiver = rank 0; value = 21; sequence = 2; place = EndList } ∷ [];
+      holds = message (rank 1) (rank 0) EndList 21 2 ∷ [];
     }
 
 -- what the moves come to, where ranks 0 and 1 then run as v and w: the claim's two equations, and a second list

@@ -4,7 +4,7 @@ use mathlib.Core.Path.{_≡_, refl, ap}
 use mathlib.Core.Bool.{true}
 use mathlib.Core.List.{List, [], _∷_}
 use lib.ListN.{replicate, take}
-use Rattle.transit.specs.Message.{rank}
+use Rattle.transit.specs.Message.{message, rank}
 use Rattle.transit.specs.declared.Place.the-variants.{SourceChannel, EndList, Channel}
 use Rattle.broker.specs.Names.{vmid}
 use Rattle.broker.specs.State.{idle, fresh}
@@ -34,9 +34,9 @@ both-open =
       processes =
           process (Migrating (vmid 0 1) (vmid 0 3)) ∷ process (Migrating (vmid 0 2) (vmid 0 4)) ∷ replicate 14 idle;
       holds =
-          record { sender = rank 0; receiver = rank 1; value = 10; sequence = 1; place = SourceChannel } ∷
-          record { sender = rank 1; receiver = rank 0; value = 20; sequence = 1; place = SourceChannel } ∷
-          record { sender = rank 1; receiver = rank 0; value = 21; sequence = 2; place = SourceChannel } ∷ [];
+          message (rank 0) (rank 1) SourceChannel 10 1 ∷
+          message (rank 1) (rank 0) SourceChannel 20 1 ∷
+          message (rank 1) (rank 0) SourceChannel 21 2 ∷ [];
     }
 
 pub both-are-open : result (readings (take 9 (overlapping 0 0 0 0 2 3))) ≡ both-open
@@ -82,8 +82,8 @@ thrice-started es =
       steps = es;
       processes = process (Running (vmid 0 1)) ∷ process (Running (vmid 1 3)) ∷ replicate 14 idle;
       holds =
-          record { sender = rank 0; receiver = rank 1; value = 52; sequence = 3; place = EndList } ∷
-          record { sender = rank 0; receiver = rank 1; value = 53; sequence = 4; place = Channel } ∷ [];
+          message (rank 0) (rank 1) EndList 52 3 ∷
+          message (rank 0) (rank 1) Channel 53 4 ∷ [];
     }
 
 pub twice-comes-to : result (readings twice) ≡ thrice-started twice

@@ -6,7 +6,7 @@ use lib.ListN.{getD, replicate}
 use Rattle.transit.specs.declared.Place.the-variants.{SourceChannel}
 use Rattle.record.specs.Kind
 use Rattle.broker.specs.Names.{vmid, isMigrating}
-use Rattle.transit.specs.Message.{rank}
+use Rattle.transit.specs.Message.{message, rank}
 use Rattle.broker.specs.Ranks.{everyRank}
 use Rattle.broker.specs.State.{idle, fresh}
 use Rattle.broker.specs.declared.process.Status.the-variants.{Running, Migrating}
@@ -52,8 +52,8 @@ open-move =
       steps = unlanded-steps;
       processes = process (Running (vmid 0 1)) ∷ process (Migrating (vmid 1 1) (vmid 2 1)) ∷ replicate 14 idle;
       holds =
-          record { sender = rank 0; receiver = rank 1; value = 501; sequence = 2; place = SourceChannel } ∷
-          record { sender = rank 0; receiver = rank 1; value = 502; sequence = 3; place = SourceChannel } ∷ [];
+          message (rank 0) (rank 1) SourceChannel 501 2 ∷
+          message (rank 0) (rank 1) SourceChannel 502 3 ∷ [];
     }
 
 pub unlanded-comes-to : result unlanded ≡ open-move

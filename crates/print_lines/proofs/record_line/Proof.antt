@@ -12,7 +12,8 @@ returns : tie.Need-returns
 returns c =
     let last = c .before .before in
     let four = last .before .before .before .before in
-    let kind = four .before .before .before .before in
+    let read = four .before .before .before in
+    let kind = read .before .before .before .before in
     let position = kind .before .before .before .before in
     let arm = position .before .before .before in
     let args = arm .before .before .before .args in

@@ -93,11 +93,11 @@ module _ (s : State) (b a : Rank) (h : sound s ≡ true) (f : TakeFits s b a) wh
         letters,
       )
 
-  pub take-value : take b a s .v1 ∷ valuesBetween a b (coreStep (Take b a) (core s)) ≡ valuesBetween a b (core s)
+  pub take-value : take b a s .values .0 ∷ valuesBetween a b (coreStep (Take b a) (core s)) ≡ valuesBetween a b (core s)
   unfolding take
   take-value = rw (taken .removes) (take-first (λ m. m .value))
 
-  pub take-sequence : take b a s .v3 ∷ sequencesBetween a b (coreStep (Take b a) (core s)) ≡ sequencesBetween a b (core s)
+  pub take-sequence : take b a s .values .2 ∷ sequencesBetween a b (coreStep (Take b a) (core s)) ≡ sequencesBetween a b (core s)
   unfolding take
   take-sequence = rw (taken .removes) (take-first (λ m. m .sequence))
 

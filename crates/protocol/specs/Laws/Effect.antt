@@ -9,7 +9,7 @@ use Rattle.base.specs.Laws.Lists.{every-and, every-both, every-select, every-se
 use Rattle.base.specs.Laws.Rising.{neverFalls-kept}
 use Rattle.base.specs.Laws.Tests.{by-test, both, both-left, both-right}
 use Rattle.base.specs.Lists.{every, select, neverFalls}
-use Rattle.transit.specs.Message.{sameRank, relabelled, isRank, ranks, between, number}
+use Rattle.transit.specs.Message.{sameRank, relabelled, isRank, ranks, between, placeIndex}
 use Rattle.transit.specs.declared.Message.{Message}
 use Rattle.transit.specs.declared.Place.{Place}
 use Rattle.transit.specs.declared.Rank.{Rank}
@@ -113,9 +113,9 @@ module _ {s s' : State} {c : Change} {about : Rank → Rank → Bool} (f : Facts
       (messages s) all-known
 
   -- the places of each pair never fall
-  pub order-stays : AtPairs (λ a b. neverFalls (map (λ m. number (placedAnew m)) (select (between a b) (messages s))))
+  pub order-stays : AtPairs (λ a b. neverFalls (map (λ m. placeIndex (placedAnew m)) (select (between a b) (messages s))))
   order-stays a b ha hb =
-      neverFalls-kept number (λ m. number (placedAnew m)) (λ m. between a b m && (isNamed m && fits s m))
+      neverFalls-kept placeIndex (λ m. placeIndex (placedAnew m)) (λ m. between a b m && (isNamed m && fits s m))
       (λ x y kx ky o.
       let here = both-right (between a b x) _ kx in
       let is = both-left (between a b x) _ kx in

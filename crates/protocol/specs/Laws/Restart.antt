@@ -89,7 +89,7 @@ no-refusal SequenceSpent = refl
 
 pub never-eighteen : (answer : Answer) → NeverEighteen answer
 unfolding NeverEighteen
-never-eighteen (Accepted v1 v2 v3) = eqb-false 0 18 refl
+never-eighteen (Accepted v) = eqb-false 0 18 refl
 never-eighteen (Refused n) = eqb-false (refusalNumber n) 18 (no-refusal n)
 
 -- "like any other": of two hosts with numbers left, a move of a rank to the one is refused as one to the other, wherever the rank runs.

@@ -36,7 +36,7 @@ pastRecord log at = at + 1 + bodyLength (getD log at 0)
 
 -- the outcome of a record that is carried out
 abbrev pub carried : Done → ℕ → Outcome
-carried d next = record { answer = Accepted (d .v1) (d .v2) (d .v3); next = next; state = d .state }
+carried d next = record { answer = Accepted (d .values); next = next; state = d .state }
 
 -- What a step comes to: a refusal that leaves the state as it was, or a record that passes every check and is carried out.
 pub data Course (named : Rank) (s : State) (log : List ℕ) (at : ℕ) : Type 0 where

@@ -11,7 +11,7 @@ use lib.ListN.{length, getD}
 use Rattle.base.specs.Laws.Tests.{both, both-left, both-right, AllTrue, parts, chained, same-truth}
 use Rattle.base.specs.Lists.{select, every}
 use Rattle.base.specs.Laws.Lists.{every-wider, every-and}
-use Rattle.transit.specs.Message.{between, number, rank, cells, ranks}
+use Rattle.transit.specs.Message.{between, placeIndex, rank, cells, ranks}
 use Rattle.transit.specs.Unread.{limit}
 use Rattle.transit.specs.declared.Message.{Message}
 use Rattle.transit.specs.declared.Rank.{Rank}
@@ -116,10 +116,10 @@ module _ (s : State) where
       let l = messages s in
       let places = every-and (fitsUnheeded s) (fitsPlace s) l (f .unheeded-places) (f .places-fit) in
       let all = every-and isNamed _ l (f .named) (every-and (hasEnds s) _ l (f .ends-fit) places) in
-      rises-of messageTest notBelow pairOf number cells (has-cell (s .processes) (s .links)) l all
+      rises-of messageTest notBelow pairOf placeIndex cells (has-cell (s .processes) (s .links)) l all
       (λ k h.
       let rise = f .places-rise (rank (k / ranks)) (rank (k % ranks)) (omega arith) (omega arith) in
-      rw (never-falls, of-cell number (f .named) k) rise)
+      rw (never-falls, of-cell placeIndex (f .named) k) rise)
 
   numbers-pass : Mail s → numbersRise (s .unread) ≡ true
   numbers-pass f =
@@ -182,7 +182,7 @@ module _ (s : State) where
       let places = placesRise (s .processes) (s .links) (s .unread) in
       let p = parts (leb (s .unread .count) limit) (places ∷ numbersRise (s .unread) ∷ []) passes in
       let few = leb-true (s .unread .count) limit (p .0) in
-      let told = rises-tells messageTest notBelow pairOf number cells (has-cell (s .processes) (s .links)) l (p .1 .0) in
+      let told = rises-tells messageTest notBelow pairOf placeIndex cells (has-cell (s .processes) (s .links)) l (p .1 .0) in
       let told-too = rises-tells isNamed (within (s .unread .sent)) pairOf (λ m. m .sequence) cells pair-inside l (p .1 .1 .0) in
       let all = told .0 in
       let named = told-too .0 in

@@ -15,21 +15,11 @@ use Rattle.base.specs.Laws.Tests.{both, fails-left, fails-right}
 use Rattle.transit.specs.Message.{ranks}
 use Rattle.transit.specs.Unread.{unreadOf}
 use Rattle.transit.specs.declared.Message.{Message}
-use Rattle.transit.specs.declared.Place.the-variants.{SourceList}
 use Rattle.protocol.specs.Laws.Sound.{isNamed}
 use Rattle.soundness_messages.specs.Laws.Messages.{named-inside}
-use Rattle.soundness_messages.specs.Laws.Pass.{
-  MessagesPass,
-  begins,
-  ends,
-  isNext,
-  unfit-decides,
-  fall-decides,
-  number-decides,
-  passed-again,
-  passed-next,
-}
+use Rattle.soundness_messages.specs.Laws.Pass.{MessagesPass, begins, ends, isNext, unfit-decides, fall-decides, number-decides, passed-again, passed-next}
 use Rattle.soundness_messages.specs.Messages.{messagesSound}
+use Rattle.transit.proofs.Slots.{blank}
 use Rattle.soundness_messages.proofs.Held.{held-count}
 use Rattle.soundness_messages.proofs.messages_sound.Statement.{statement}
 use Rattle.soundness_messages.proofs.messages_sound.Tie as tie
@@ -40,10 +30,6 @@ Inv-loop processes links t count last₀ numbers₀ i₀ last numbers i =
 
 abbrev μ-loop : tie.MeasureT-loop
 μ-loop processes links t count last₀ numbers₀ i₀ last numbers i = count - i
-
--- what a read past the slots would give
-abbrev blank : Message
-blank = record { sender = record { 0 = 0 }; receiver = record { 0 = 0 }; value = 0; sequence = 0; place = SourceList }
 
 -- the message that a turn reads
 abbrev message : tie.In-loop Inv-loop μ-loop → Message

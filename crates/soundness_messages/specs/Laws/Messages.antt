@@ -10,7 +10,7 @@ use borrow.Author.Tests.{ltb-true}
 use lib.Dec.{eqb}
 use Rattle.base.specs.Laws.Tests.{both, both-left, both-right, parts}
 use Rattle.base.specs.Lists.{select, every}
-use Rattle.transit.specs.Message.{between, number, isRank, sameRank, ranks, cells}
+use Rattle.transit.specs.Message.{between, placeIndex, isRank, sameRank, ranks, cells}
 use Rattle.transit.specs.declared.Message.{Message}
 use Rattle.transit.specs.declared.Rank.{Rank}
 use Rattle.protocol.specs.Laws.Sound.{isNamed}
@@ -50,7 +50,7 @@ has-cell ps ls m h = pair-inside m (both-left (isNamed m) _ h)
 
 -- Messages of one pair at one place fit alike.
 pub fit-alike : (ps : List Process) (ls : List Link) (m n : Message) → messageSoundAt ps ls m ≡ true → isNamed n ≡ true
-    → pairOf m ≡ pairOf n → number m ≡ number n → messageSoundAt ps ls n ≡ true
+    → pairOf m ≡ pairOf n → placeIndex m ≡ placeIndex n → messageSoundAt ps ls n ≡ true
 fit-alike ps ls m n fits named pair place =
     let inside = named-inside m (both-left (isNamed m) _ fits) in
     let inside-too = named-inside n named in

@@ -8,7 +8,7 @@ use borrow.Author.Tests.{le-leb}
 use lib.Dec.{leb}
 use lib.ListN.{getD, set, replicate}
 use Rattle.base.specs.Laws.Tests.{both, fails-left, fails-right}
-use Rattle.transit.specs.Message.{number, cells}
+use Rattle.transit.specs.Message.{placeIndex, cells}
 use Rattle.transit.specs.Unread.{Unread, limit}
 use Rattle.transit.specs.declared.Message.{Message}
 use Rattle.protocol.specs.Laws.Sound.{isNamed}
@@ -20,14 +20,14 @@ use Rattle.soundness_messages.specs.Messages.{messageSoundAt, pairOf, ri
 
 -- the pass stands before the rest of the messages
 pub record MessagesPass (ps : List Process) (ls : List Link) (u : Unread) (last numbers : List ℕ) (rest : List Message) : Type 0 where
-  pub places : Passing (messageSoundAt ps ls) isNamed pairOf number cells (placesRise ps ls u) last rest
+  pub places : Passing (messageSoundAt ps ls) isNamed pairOf placeIndex cells (placesRise ps ls u) last rest
   pub numbered : rises isNamed (within (u .sent)) pairOf (λ m. m .sequence) numbers rest ≡ numbersRise u
 
 -- It begins with no message of any pair.
 pub begins : (ps : List Process) (ls : List Link) (u : Unread) → MessagesPass ps ls u (replicate cells 0) (replicate cells 0) (u .messages)
 begins ps ls u =
     record {
-      places = pass-begins (messageSoundAt ps ls) isNamed pairOf number cells (has-cell ps ls) pair-inside _ _ refl;
+      places = pass-begins (messageSoundAt ps ls) isNamed pairOf placeIndex cells (has-cell ps ls) pair-inside _ _ refl;
       numbered = refl;
     }
 
@@ -53,7 +53,7 @@ module _ {ps : List Process} {ls : List Link} {u : Unread} {last numbers : List 
   unfit-decides unfit = places-decide (pass-unfit (p .places) unfit)
 
   -- So does one at a place below the last one of its pair,
-  pub fall-decides : markOf number m < getD last (pairOf m) 0 → false ≡ messagesSound ps ls u
+  pub fall-decides : markOf placeIndex m < getD last (pairOf m) 0 → false ≡ messagesSound ps ls u
   fall-decides falls = places-decide (pass-falls (p .places) falls)
 
   -- and one whose running number may not come after the last one of its pair.
@@ -69,13 +69,13 @@ module _ {ps : List Process} {ls : List Link} {u : Unread} {last numbers : List 
   number-passes named next = rw (named, next) at (p .numbered)
 
   -- A message at the last place of its pair is passed untested.
-  pub passed-again : isNamed m ≡ true → isNext u numbers m ≡ true → getD last (pairOf m) 0 ≡ markOf number m
+  pub passed-again : isNamed m ≡ true → isNext u numbers m ≡ true → getD last (pairOf m) 0 ≡ markOf placeIndex m
       → MessagesPass ps ls u last (set numbers (pairOf m) (m .sequence)) rest
   passed-again named next mark = record { places = pass-again (p .places) named mark; numbered = number-passes named next }
 
   -- Any other that fits is passed.
-  pub passed-next : isNamed m ≡ true → isNext u numbers m ≡ true → messageSoundAt ps ls m ≡ true → getD last (pairOf m) 0 ≤ markOf number m
-      → MessagesPass ps ls u (set last (pairOf m) (markOf number m)) (set numbers (pairOf m) (m .sequence)) rest
+  pub passed-next : isNamed m ≡ true → isNext u numbers m ≡ true → messageSoundAt ps ls m ≡ true → getD last (pairOf m) 0 ≤ markOf placeIndex m
+      → MessagesPass ps ls u (set last (pairOf m) (markOf placeIndex m)) (set numbers (pairOf m) (m .sequence)) rest
   passed-next named next fits above =
       record {
         places = pass-next (p .places) (has-cell ps ls) (fit-alike ps ls) fits above;

@@ -56,7 +56,7 @@ returns-3 c =
       subst (λ (s : State). Stepped (view (args .broker)) (args .log .now) (args .at) (replied (step .step-in-place .result) s))
           (sym (c .unload .ensures)) stepped,
       (
-        accepted-is-no-refusal (step .step-in-place .result .answer) _ _ _ _ _ (told .enum-told2 .given .1),
+        accepted-is-no-refusal (step .step-in-place .result .answer) _ _ _ (told .enum-told2 .given .1),
         step .step-in-place .ensures .1,
       ),
     )

@@ -9,13 +9,14 @@ use Rattle.protocol.specs.Step.{Outcome, Stepped}
 use Rattle.answer.specs.declared.Answer.{Answer}
 use Rattle.answer.specs.declared.Answer.the-variants.{Accepted, Refused}
 use Rattle.answer.specs.declared.Refusal.{Refusal}
+use Rattle.answer.specs.declared.Values.{Values}
 use Rattle.broker.specs.declared.state.Broker.{Broker}
 use Rattle.steps.specs.Outcome.{RefusalKeeps}
 
 -- an accepted answer is no refusal
 pub accepted-is-no-refusal :
-    (answer : Answer) (v1 v2 v3 : ℕ) (before after : Broker) → answer ≡ Accepted v1 v2 v3 → RefusalKeeps answer before after
-accepted-is-no-refusal answer v1 v2 v3 before after e = λ n r. let z : _≡_ {A = ℕ} 0 1 = cc in absurd (omega arith)
+    (answer : Answer) (v : Values) (before after : Broker) → answer ≡ Accepted v → RefusalKeeps answer before after
+accepted-is-no-refusal answer v before after e = λ n r. let z : _≡_ {A = ℕ} 0 1 = cc in absurd (omega arith)
 
 -- a refused step's outcome is one with the state as it was
 pub refused-step :

@@ -1,29 +1,19 @@
 -- The first message of a pair leaves: four stores in the slots.
 -- Assumes nothing.
 use mathlib.Core.List.{List}
-use mathlib.Core.Path.{_≡_, ap, sym, _∙_}
+use mathlib.Core.Path.{_≡_, ap, _∙_}
 use Prim.Native.Nat.{ℕ, _+_, _-_, _<_, _≤_}
 use native.Mathlib.Omega.{arith}
 use borrow.Author.Tests.{eq-eqb, ne-eqb}
 use lib.ListN.{length, getD, set, length-set}
-use Rattle.transit.specs.Columns.{columnsOf, NEXT, FIRST, COUNT, UNREAD, SEQUENCES, SLOTS, DEAD}
+use Rattle.transit.specs.Columns.{columnsOf, PLACES, NEXT, FIRST, COUNT, UNREAD, SEQUENCES, SLOTS, DEAD}
 use Rattle.base.specs.Lists.{tally, without}
 use Rattle.transit.specs.Mail.{messagesIn, Mail, Left}
 use Rattle.transit.specs.Message.{between, ranks, cells, pairOf}
-use Rattle.transit.specs.Unread.{valueIn, sequenceIn}
+use Rattle.transit.specs.Slots.{messageOf}
 use Rattle.transit.specs.declared.Rank.{Rank}
-use Rattle.transit.specs.Laws.Columns.{
-  column-sizes,
-  store-pair,
-  store-first,
-  store-count,
-  store-unread,
-  first-at,
-  next-at,
-  count-at,
-  unread-is,
-}
-use Rattle.transit.specs.Laws.Earliest.{Earliest, earliest-found, earliest-without}
+use Rattle.transit.specs.Laws.Columns.{column-sizes, store-pair, store-first, store-count, store-unread, first-at, next-at, count-at, unread-is}
+use Rattle.transit.specs.Laws.Earliest.{Earliest, earliest-live, earliest-found, earliest-without}
 use Rattle.transit.specs.Laws.Links.{first-some}
 use Rattle.base.specs.Laws.Lists.{tally-bounded, length-without, tally-without}
 use Rattle.base.specs.Laws.Stores.{read-set}
@@ -71,6 +61,10 @@ module _ {s v : List ℕ} (a b : Rank) (d : Mail s v) (small-a : a .0 < ranks) (
         others = λ k h _ live. between-pair a b small-a small-b _ live ∙ ne-eqb _ (pairOf a b) (f .apart k (omega arith) h);
       }
 
+  -- It is live.
+  pub first-live : getD s (getD s (FIRST + pairOf a b) 0) 0 < cells
+  first-live = rw (first-at s (pairOf a b) small) at (earliest-live d first-earliest first-inside)
+
   -- The columns after the four stores.
   columns-left : columnsOf (without-first s (pairOf a b)) ≡ taken (columnsOf s) (pairOf a b)
   columns-left =
@@ -112,14 +106,14 @@ module _ {s v : List ℕ} (a b : Rank) (d : Mail s v) (small-a : a .0 < ranks) (
 
   -- What has left.
   pub has-left : let at = getD s (FIRST + pairOf a b) 0 in
-      Left a b s v (getD v at 0) (getD v (SEQUENCES + at) 0) (getD s (COUNT + pairOf a b) 0 - 1) (without-first s (pairOf a b))
+      Left a b s v (messageOf (getD s at 0) (getD s (PLACES + at) 0) (getD v at 0) (getD v (SEQUENCES + at) 0))
+      (getD s (COUNT + pairOf a b) 0 - 1) (without-first s (pairOf a b))
   has-left =
       let found = earliest-found d first-earliest first-inside in
       let fewer = tally-without (between a b) (between a b) (λ x e. e) (messagesIn s v) some in
       record {
         kept = kept-left;
         same = same-left;
-        found = sym (rw (first-at s (pairOf a b) small) at (ap valueIn found));
-        numbered = sym (rw (first-at s (pairOf a b) small) at (ap sequenceIn found));
+        found = rw (first-at s (pairOf a b) small) at found;
         pair = rw same-left (omega (arith, count-is));
       }

@@ -8,7 +8,7 @@ use native.Mathlib.Omega.{arith}
 use borrow.Author.Tests.{leb-true, ne-eqb}
 use lib.Dec.{leb}
 use Rattle.base.specs.Lists.{select, every, neverFalls}
-use Rattle.transit.specs.Message.{placeNumber, number, at, picks, byPlace, placeOrder}
+use Rattle.transit.specs.Message.{placeNumber, placeIndex, at, picks, byPlace, placeOrder}
 use Rattle.transit.specs.declared.Message.{Message}
 use Rattle.transit.specs.declared.Place.{Place}
 use Rattle.transit.specs.declared.Place.the-variants.{SourceList, SourceChannel, EndList, Channel}
@@ -24,16 +24,16 @@ place-below-four EndList = omega arith
 place-below-four Channel = omega arith
 
 -- Messages whose places never fall are in place order already.
-byPlace-sorted : (l : List Message) → neverFalls (map number l) ≡ true → byPlace l ≡ l
+byPlace-sorted : (l : List Message) → neverFalls (map placeIndex l) ≡ true → byPlace l ≡ l
 byPlace-sorted [] sorted = refl
-byPlace-sorted (m ∷ l) sorted = at-place (m .place) refl (byPlace-sorted l (both-right (every (leb (number m)) (map number l)) _ sorted))
+byPlace-sorted (m ∷ l) sorted = at-place (m .place) refl (byPlace-sorted l (both-right (every (leb (placeIndex m)) (map placeIndex l)) _ sorted))
   where
     -- None of the others is at a place before that of the first.
     none : (q p : Place) → m .place ≡ p → placeNumber q < placeNumber p → select (at q) l ≡ []
     none q p is before =
-        select-none (at q) l (every-wider (λ x. leb (number m) (number x)) (λ x. not (at q x))
-        (λ x h. rw (ne-eqb (number x) (placeNumber q) (λ e. omega (arith, e, ap placeNumber is, leb-true (number m) (number x) h)))) l
-        (rw every-map at (both-left (every (leb (number m)) (map number l)) _ sorted)))
+        select-none (at q) l (every-wider (λ x. leb (placeIndex m) (placeIndex x)) (λ x. not (at q x))
+        (λ x h. rw (ne-eqb (placeIndex x) (placeNumber q) (λ e. omega (arith, e, ap placeNumber is, leb-true (placeIndex m) (placeIndex x) h)))) l
+        (rw every-map at (both-left (every (leb (placeIndex m)) (map placeIndex l)) _ sorted)))
 
     at-place : (p : Place) → m .place ≡ p → byPlace l ≡ l → byPlace (m ∷ l) ≡ m ∷ l
     at-place SourceList is rest = rw (is, rest)
@@ -47,6 +47,6 @@ byPlace-sorted (m ∷ l) sorted = at-place (m .place) refl (byPlace-sorted l (bo
         let c = none EndList Channel is (omega arith) in rw (is, a, b, c) (cc)
 
 -- Where the places of the selected messages never fall, place order is the order of sending.
-pub place-order-is-list-order : (s : Selection) (l : List Message) → neverFalls (map number (select (picks s) l)) ≡ true
+pub place-order-is-list-order : (s : Selection) (l : List Message) → neverFalls (map placeIndex (select (picks s) l)) ≡ true
     → placeOrder s l ≡ select (picks s) l
 place-order-is-list-order s l sorted = byPlace-sorted (select (picks s) l) sorted

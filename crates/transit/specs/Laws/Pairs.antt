@@ -8,7 +8,7 @@ use native.Mathlib.Omega.{arith}
 use borrow.Author.Tests.{eq-eqb, eqb-true}
 use lib.ListN.{length, length-append}
 use Rattle.base.specs.Lists.{select}
-use Rattle.transit.specs.Message.{number, sameRank, between, relabelled, picks}
+use Rattle.transit.specs.Message.{placeIndex, sameRank, between, relabelled, picks}
 use Rattle.transit.specs.Unread.{firstTo}
 use Rattle.transit.specs.declared.Message.{Message}
 use Rattle.transit.specs.declared.Place.{Place}
@@ -23,7 +23,7 @@ ofPair f a b l = map f (select (between a b) l)
 
 -- the numbers of their places, and their running numbers
 abbrev pub places : Rank → Rank → List Message → List ℕ
-places = ofPair number
+places = ofPair placeIndex
 
 abbrev pub sequences : Rank → Rank → List Message → List ℕ
 sequences = ofPair (λ m. m .sequence)

@@ -12,8 +12,9 @@ use Rattle.transit.specs.Laws.Removed.{removed-sent-first}
 use Rattle.base.specs.Lists.{select, tally, neverFalls}
 use Rattle.transit.specs.Columns.{sentIn}
 use Rattle.transit.specs.Mail.{messagesIn, unreadIn, Appended, Left, Relabelled, FirstRelabelled}
-use Rattle.transit.specs.Message.{number, between}
+use Rattle.transit.specs.Message.{placeIndex, between}
 use Rattle.transit.specs.Unread.{limit, nextMessage, head, appended, removed, relabelAll, relabelFirst}
+use Rattle.transit.specs.declared.Found.the-variants.{First}
 use Rattle.transit.specs.declared.Message.{Message}
 use Rattle.transit.specs.declared.Place.{Place}
 use Rattle.transit.specs.declared.Rank.{Rank}
@@ -41,12 +42,12 @@ module _ {slots contents slots' : List ℕ} where
   first-relabelled-unread {s} {p} x = rw (relabels-first s (unreadIn slots contents) p, x .same, length-changeFirst)
 
   -- the pair's first message has left: where places never fall, that is the first in place order
-  pub left-unread : {a b : Rank} {value sequence rest : ℕ} → Left a b slots contents value sequence rest slots'
+  pub left-unread : {a b : Rank} {m : Message} {rest : ℕ} → Left a b slots contents m rest slots'
       → 0 < tally (between a b) (messagesIn slots contents)
-      → neverFalls (map number (select (between a b) (messagesIn slots contents))) ≡ true
+      → neverFalls (map placeIndex (select (between a b) (messagesIn slots contents))) ≡ true
       → removed (Between a b) (unreadIn slots contents)
-      ≡ record { found = head (select (between a b) (messagesIn slots contents)); unread = unreadIn slots' contents }
-  left-unread {a} {b} x some rises = at (select (between a b) (messagesIn slots contents)) refl some
+      ≡ record { found = First m; unread = unreadIn slots' contents }
+  left-unread {a} {b} x some rises = rw (← x .found) (at (select (between a b) (messagesIn slots contents)) refl some)
     where
       at : (l : List Message) → select (between a b) (messagesIn slots contents) ≡ l → 0 < length l
           → removed (Between a b) (unreadIn slots contents) ≡ record { found = head l; unread = unreadIn slots' contents }

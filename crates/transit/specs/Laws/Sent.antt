@@ -9,7 +9,7 @@ use lib.ListN.{length, getD, set, take, length-set, length-drop}
 use lib.Seq.{drop-set-lt, drop-set-add, take-set-le, take-suc, take-suc-set, take-all, getD-take, getD-drop}
 use Rattle.transit.specs.Columns.{columnsOf, sentIn, SENT, SEQUENCES, SLOTS, contentsLength}
 use Rattle.transit.specs.Mail.{messagesIn, Mail, Roomy, Put, Appended}
-use Rattle.transit.specs.Message.{cells, pairOf}
+use Rattle.transit.specs.Message.{message, cells, pairOf}
 use Rattle.transit.specs.Sent.{Counted, Kept}
 use Rattle.transit.specs.Slots.{messageAt}
 use Rattle.transit.specs.Unread.{sentAt, oneMore}
@@ -118,7 +118,7 @@ module _ {a b : Rank} {s v s' v' v'' : List ℕ} {k : ℕ} (r : Roomy s v s' v')
 
   -- Put with the number counted, a message is behind all others with the next number of its pair.
   pub numbered-put : {p : Place} {x n : ℕ} {s3 v3 : List ℕ}
-      → Put (record { sender = a; receiver = b; place = p; value = x; sequence = k }) s' v'' n s3 v3
+      → Put (message a b p x k) s' v'' n s3 v3
       → Appended a b p x s v n s3 v3
   numbered-put {p} {x} {n} {s3} {v3} put =
       let number : k ≡ sentAt a b (sentIn v) + 1 = c .now ∙ ap (λ (l : List ℕ). sentAt a b l + 1) (r .counts) in

@@ -15,19 +15,21 @@ count-one-requires c κs =
 
 put-requires : tie.Need-put-requires
 put-requires c κs =
-    let counted = c .before .before in
+    let made = c .before .before in
+    let counted = made .before in
     let roomed = counted .before .before in
     let start = roomed .before .before .before in
     let roomy = roomed .make-room .ensures in
     let one = counted .count-one .ensures in
     let same = ap length (counted-same roomy one) in
-    (counted-kept roomy one, (roomy .room, (omega (arith, same, start .pre .1 .0), (start .pre .1 .1 .0, start .pre .1 .1 .1 .0))))
+    (counted-kept roomy one, (roomy .room, (omega (arith, same, start .pre .1 .0), rw (made .new .ensures) (start .pre .1 .1 .0, start .pre .1 .1 .1 .0))))
 
 returns : tie.Need-returns
 returns c =
-    let counted = c .before .before .before in
-    numbered-put (counted .before .before .make-room .ensures) (counted .count-one .ensures) (c .put .ensures .0)
+    let made = c .before .before .before in
+    let counted = made .before in
+    numbered-put (counted .before .before .make-room .ensures) (counted .count-one .ensures) (rw (made .new .ensures) at (c .put .ensures .0))
 
 pub append-spec : {M : Type 1} → statement M
 append-spec =
-    tie.close (tie.spec (λ c κs. search needs) count-one-requires put-requires returns)
+    tie.close (tie.spec (λ c κs. search needs) count-one-requires (λ c κs. search needs) put-requires returns)

@@ -26,7 +26,7 @@ use Rattle.base.specs.Laws.Rising.{every-chosen, without-shorter, neverFalls-ap
 use Rattle.base.specs.Laws.Tests.{by-test, both, both-left, both-right}
 use Rattle.transit.specs.Laws.Operations.{relabels-first}
 use Rattle.transit.specs.Laws.Pairs.{places, sequences, append-length, append-own, append-other, firstTo-length}
-use Rattle.transit.specs.Message.{number, sameRank, at, between, relabelled, ranks, cells}
+use Rattle.transit.specs.Message.{placeIndex, sameRank, at, between, relabelled, ranks, cells}
 use Rattle.transit.specs.Unread.{Unread, limit, counted, sentAt, oneMore, nextMessage, relabelFirst}
 use Rattle.transit.specs.declared.Message.{Message}
 use Rattle.transit.specs.declared.Place.{Place}
@@ -69,7 +69,7 @@ module _ (u : Unread) (o : InOrder u) where
         (λ e. rw (append-other (λ m. m .sequence) c d (u .messages) new e, e) (o .numbers-rise c d hc hd)))
 
     pub append-keeps : u .count < limit → isNamed new ≡ true
-        → every (λ x. not (between a b x) || leb (number x) (number new)) (u .messages) ≡ true
+        → every (λ x. not (between a b x) || leb (placeIndex x) (placeIndex new)) (u .messages) ≡ true
         → InOrder (record { messages = u .messages ++ new ∷ []; count = u .count + 1; sent = oneMore a b (u .sent) })
     append-keeps room name last =
         record {
@@ -79,12 +79,12 @@ module _ (u : Unread) (o : InOrder u) where
           places-rise = λ c d hc hd.
               by-test (between c d new)
               (λ e.
-              rw (append-own number c d (u .messages) new e)
-              (neverFalls-append (places c d (u .messages)) (number new) (o .places-rise c d hc hd)
+              rw (append-own placeIndex c d (u .messages) new e)
+              (neverFalls-append (places c d (u .messages)) (placeIndex new) (o .places-rise c d hc hd)
               (rw every-map
-              (every-chosen (between c d) _ (λ x. leb (number x) (number new))
+              (every-chosen (between c d) _ (λ x. leb (placeIndex x) (placeIndex new))
               (λ x is h. rw (sender-of c d new e, receiver-of c d new e, is) at h) (u .messages) last))))
-              (λ e. rw (append-other number c d (u .messages) new e) (o .places-rise c d hc hd));
+              (λ e. rw (append-other placeIndex c d (u .messages) new e) (o .places-rise c d hc hd));
           numbers-rise = append-rises;
         }
 
@@ -99,7 +99,7 @@ module _ (u : Unread) (o : InOrder u) where
             by-test (sameRank a c && sameRank b d)
             (λ e.
             rw (without-same (between c d) (standing a b p) (λ m h. standing-of a b p c d m h ∙ e) (u .messages))
-            (neverFalls-without number (standing a b p) (select (between c d) (u .messages)) (o .places-rise c d hc hd)))
+            (neverFalls-without placeIndex (standing a b p) (select (between c d) (u .messages)) (o .places-rise c d hc hd)))
             (λ e.
             rw (without-other (between c d) (standing a b p) (λ m h. standing-of a b p c d m h ∙ e) (u .messages))
             (o .places-rise c d hc hd));
@@ -127,7 +127,7 @@ module _ (u : Unread) (o : InOrder u) where
             by-test (sameRank a c && sameRank b d)
             (λ e.
             rw (changeFirst-same (between c d) lane to-list (λ m. refl) (λ m h. standing-of a b SourceChannel c d m h ∙ e) (u .messages))
-            (neverFalls-changeFirst number (between c d) lane to-list (λ m. refl) (λ m h. omega arith) (above c d)
+            (neverFalls-changeFirst placeIndex (between c d) lane to-list (λ m. refl) (λ m h. omega arith) (above c d)
             (select (between c d) (u .messages)) (every-selected (between c d) (u .messages)) (o .places-rise c d hc hd)))
             (λ e.
             rw (changeFirst-other (between c d) lane to-list (λ m. refl) (λ m h. standing-of a b SourceChannel c d m h ∙ e) (u .messages))
@@ -138,10 +138,10 @@ module _ (u : Unread) (o : InOrder u) where
       }
     where
       above : (c d : Rank) (x y : Message) → between c d x ≡ true → between c d y ≡ true
-          → standing a b SourceChannel x ≡ false → standing a b SourceChannel y ≡ true → number x ≤ number y → number x ≤ 0
+          → standing a b SourceChannel x ≡ false → standing a b SourceChannel y ≡ true → placeIndex x ≤ placeIndex y → placeIndex x ≤ 0
       above c d x y is-x is-y off on before =
           let mine : between a b x ≡ true =
           rw (sender-of c d x is-x, receiver-of c d x is-x, ← sender-of c d y is-y, ← receiver-of c d y is-y)
           (both-left (between a b y) _ on) in
-          let elsewhere : eqb (number x) 1 ≡ false = rw mine at off in
-          omega (arith, eqb-false (number x) 1 elsewhere, eqb-true (number y) 1 (both-right (between a b y) (at SourceChannel y) on))
+          let elsewhere : eqb (placeIndex x) 1 ≡ false = rw mine at off in
+          omega (arith, eqb-false (placeIndex x) 1 elsewhere, eqb-true (placeIndex y) 1 (both-right (between a b y) (at SourceChannel y) on))
