@@ -10,10 +10,10 @@ use transit::CONTENTS_LENGTH;
 use transit::SLOTS_LENGTH;
 
 // The answer's number, 0 where the step is accepted, and its first value.
-fn tell(number: u8, value: u32) {
+fn tell(number: u8, value: u64) {
     io::print_decimal(STDOUT_FILENO, number as u64);
     io::write_all(STDOUT_FILENO, b" ");
-    io::print_decimal(STDOUT_FILENO, value as u64);
+    io::print_decimal(STDOUT_FILENO, value);
     io::write_all(STDOUT_FILENO, b"\n");
 }
 
@@ -30,7 +30,7 @@ fn main() {
         let reply = step_in_place(log, at, &mut slots, &mut contents, &mut roster);
         let answer = reply.answer;
         let values = answer.values();
-        tell(answer.number(), values.0);
+        tell(answer.number(), values.0 as u64);
         let next = reply.next;
         if next <= at {
             return;

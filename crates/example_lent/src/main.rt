@@ -23,10 +23,10 @@ fn step_by_lending(mut broker: Broker, log: &[u8], at: usize) -> Outcome
 }
 
 // The answer's number, 0 where the step is accepted, and its first value.
-fn tell(number: u8, value: u32) {
+fn tell(number: u8, value: u64) {
     io::print_decimal(STDOUT_FILENO, number as u64);
     io::write_all(STDOUT_FILENO, b" ");
-    io::print_decimal(STDOUT_FILENO, value as u64);
+    io::print_decimal(STDOUT_FILENO, value);
     io::write_all(STDOUT_FILENO, b"\n");
 }
 
@@ -40,7 +40,7 @@ fn main() {
         let done = step_by_lending(broker, log, at);
         let answer = done.answer;
         let values = answer.values();
-        tell(answer.number(), values.0);
+        tell(answer.number(), values.0 as u64);
         let next = done.next;
         if next <= at {
             return;

@@ -28,7 +28,10 @@ fn main() {
     let mut log = io::large_buffer();
     let end = io::read_full(STDIN_FILENO, &mut log);
     if end == log.len() {
-        io::write_all(STDERR_FILENO, b"tally: the log is cut at 65,536 bytes\n");
+        io::write_all(
+            STDERR_FILENO,
+            b"example_tally: the log is cut at 65,536 bytes\n",
+        );
     }
     let mut counts = [0u32; NUMBERS];
     let mut broker = Broker::fresh();

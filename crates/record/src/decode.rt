@@ -13,20 +13,24 @@ use transit::Value;
 // How many kinds there are: 01 to 0C.
 const KINDS: u8 = 12;
 
-// How many bytes follow each kind; 00 is none.
-const BODY: [usize; 13] = [0, 2, 2, 2, 6, 2, 2, 2, 2, 1, 2, 1, 1];
-
 pub fn is_kind(kind: u8) -> bool
     ensures { λ r. ⌜ r ≡ isKind kind ⌝ }
 {
     (1 <= kind) & (kind <= KINDS)
 }
 
+// How many bytes follow a kind.
 fn body_length(kind: u8) -> usize
     requires { ⌜ isKind kind ≡ true ⌝ }
     ensures { λ r. ⌜ r ≡ bodyLength kind ⌝ }
 {
-    BODY[kind as usize]
+    match kind {
+        4 => 6,
+        9 => 1,
+        11 => 1,
+        12 => 1,
+        _ => 2,
+    }
 }
 
 // The byte at a position, and 0 past the end.

@@ -4,26 +4,27 @@ use answer::Values;
 use broker::state::Broker;
 use libc::STDOUT_FILENO;
 use steps::step;
+use transit::Sequence;
 use transit::Transit;
 
 // Where the count stands of what rank 0 has sent to rank 1.
 const PAIR: usize = 1;
 
-fn tell_value(value: u32) {
+fn tell_value(value: u64) {
     io::write_all(STDOUT_FILENO, b" ");
-    io::print_decimal(STDOUT_FILENO, value as u64);
+    io::print_decimal(STDOUT_FILENO, value);
 }
 
 // The answer's number, 0 where the step is accepted, and its values.
 fn tell(number: u8, values: Values) {
     io::print_decimal(STDOUT_FILENO, number as u64);
-    tell_value(values.0);
-    tell_value(values.1);
-    tell_value(values.2);
+    tell_value(values.0 as u64);
+    tell_value(values.1 as u64);
+    tell_value(values.2 as u64);
     io::write_all(STDOUT_FILENO, b"\n");
 }
 
-fn tell_sent(count: u32) {
+fn tell_sent(count: Sequence) {
     io::print_decimal(STDOUT_FILENO, count as u64);
     io::write_all(STDOUT_FILENO, b" sent\n");
 }
