@@ -9,11 +9,12 @@
 pub mod bits;
 pub mod checks;
 pub mod desk;
-pub mod generate;
+pub mod field;
 mod lines;
 pub mod made_up;
 pub mod mail;
 pub mod names;
+pub mod proposals;
 pub mod rank_set;
 pub mod record;
 pub mod refusal;

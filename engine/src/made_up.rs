@@ -2,8 +2,9 @@
 //! that a seed stands for. Panel makers exchange it as that number, so it stays
 //! the same log at every later landing, whatever kinds come after 0C.
 
+use crate::field::Field;
 use crate::names::{Host, Rank};
-use crate::record::{Field, Kind};
+use crate::record::Kind;
 use std::fmt;
 use std::io::{self, Write};
 
@@ -149,7 +150,7 @@ impl Form {
         Form {
             kind,
             second_below,
-            length: 1 + kind.body_length(),
+            length: kind.record_length(),
         }
     }
 }

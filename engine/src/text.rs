@@ -4,7 +4,8 @@
 //! refused records can be written too. A line `bytes 4 0 1 ff` gives bytes as
 //! they are, in hexadecimal, so that every log has a text.
 
-use crate::record::{Field, Kind, Step};
+use crate::field::Field;
+use crate::record::{Kind, Step};
 use std::fmt::{self, Write};
 
 /// The word of a line that gives bytes as they are.
@@ -17,24 +18,6 @@ const BYTE_ORDER_MARK: char = '\u{FEFF}';
 const LONGEST_SHOWN: usize = 80;
 
 impl Kind {
-    /// The word for a record of this kind.
-    pub fn word(self) -> &'static str {
-        match self {
-            Kind::Start => "start",
-            Kind::Call => "call",
-            Kind::Route => "route",
-            Kind::Send => "send",
-            Kind::Take => "take",
-            Kind::Move => "move",
-            Kind::Heed => "heed",
-            Kind::Drain => "drain",
-            Kind::Land => "land",
-            Kind::Part => "part",
-            Kind::End => "end",
-            Kind::Look => "look",
-        }
-    }
-
     /// The kind with this word.
     pub fn from_word(word: &str) -> Option<Kind> {
         Kind::ALL.into_iter().find(|kind| kind.word() == word)
@@ -46,7 +29,7 @@ impl Field {
     fn part(self) -> &'static str {
         match self {
             Field::Rank(part) => part,
-            Field::Host | Field::Value => self.sort(),
+            other => other.sort(),
         }
     }
 
@@ -60,8 +43,8 @@ impl Field {
     }
 
     /// The highest number that its bytes hold.
-    fn highest(self) -> u32 {
-        u32::MAX >> (u32::BITS - 8 * self.length() as u32)
+    fn highest(self) -> u64 {
+        u64::MAX >> (u64::BITS - 8 * self.length() as u32)
     }
 
     /// Appends the number that a word gives for this field.
@@ -72,7 +55,7 @@ impl Field {
             let (sort, word) = (self.sort(), shown(word));
             format!("{sort} '{word}' is not a number from 0 to {highest}")
         })?;
-        log.extend_from_slice(&number.to_le_bytes()[..self.length()]);
+        self.write(number, log);
         Ok(())
     }
 }
@@ -193,7 +176,7 @@ fn needs(kind: Kind) -> String {
     format!("{} needs {list}", kind.word())
 }
 
-fn read_number(word: &str) -> Option<u32> {
+fn read_number(word: &str) -> Option<u64> {
     match word.strip_prefix("0x") {
         Some(digits) => read_digits(digits, 16),
         None => read_digits(word, 10),
@@ -201,9 +184,9 @@ fn read_number(word: &str) -> Option<u32> {
 }
 
 /// The number of some digits, without a sign.
-fn read_digits(digits: &str, radix: u32) -> Option<u32> {
+fn read_digits(digits: &str, radix: u32) -> Option<u64> {
     let plain = digits.chars().all(|digit| digit.is_digit(radix));
-    plain.then(|| u32::from_str_radix(digits, radix).ok())?
+    plain.then(|| u64::from_str_radix(digits, radix).ok())?
 }
 
 /// The text of a log. What is no whole record of a known kind, and all after
@@ -224,11 +207,9 @@ pub fn decode(log: &[u8]) -> String {
 /// A record as its line of text has it.
 impl fmt::Display for Step {
     fn fmt(&self, formatter: &mut fmt::Formatter<'_>) -> fmt::Result {
-        let (kind, first, second, value) = self.fields();
-        formatter.write_str(kind.word())?;
-        let numbers = [u32::from(first), u32::from(second), value];
-        let mut given = numbers[..kind.body().len()].iter();
-        given.try_for_each(|number| write!(formatter, " {number}"))
+        formatter.write_str(self.kind().word())?;
+        let mut fields = self.fields();
+        fields.try_for_each(|(_, number)| write!(formatter, " {number}"))
     }
 }
 

@@ -11,7 +11,7 @@ use crate::probes::append_refused;
 use crate::random::with_spoiled;
 use crate::script::{Script, Stop, PAIRS};
 use engine::bits::Bits;
-use engine::generate::Mix;
+use engine::proposals::Mix;
 use scenarios::SCENARIOS;
 
 /// The scenarios of a pair, each with the name of its log.

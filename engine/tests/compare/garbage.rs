@@ -17,7 +17,7 @@ fn loose_records(bits: &mut Bits, count: usize, highest: u8) -> Vec<u8> {
     for _ in 0..count {
         let kind = Kind::ALL[bits.below(Kind::ALL.len() as u32) as usize];
         log.push(kind as u8);
-        log.extend(noise(bits, kind.body_length(), highest));
+        log.extend(noise(bits, kind.record_length() - 1, highest));
     }
     log
 }

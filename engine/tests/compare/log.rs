@@ -1,7 +1,7 @@
 //! A log to compare on, with a name for reports and the way it is handed to
 //! the program; and how such logs are made.
 
-use engine::generate::{Generator, Mix};
+use engine::proposals::{Mix, Proposer};
 use engine::text::encode;
 use engine::{Desk, Step};
 use std::ops::Range;
@@ -100,11 +100,11 @@ pub fn desk_after(log: &[u8]) -> Desk {
 
 /// Goes on from a log of whole records with so many pseudo-random ones.
 pub fn append_random(log: &mut Vec<u8>, seed: u64, mix: Mix, records: usize) {
-    let mut generator = Generator::new(seed, mix);
+    let mut proposer = Proposer::new(seed, mix);
     let mut desk = desk_after(log);
     for _ in 0..records {
         let position = log.len() as u64;
-        generator.propose(&desk).write(log);
+        proposer.propose(&desk).write(log);
         desk.step_sound(log, position);
     }
 }

@@ -103,6 +103,9 @@ mod tests {
         assert!(all.len() >= 500 && !all.contains(&0));
     }
 
+    /// The kinds that a pass has: "1 plus the draw modulo 12".
+    const DRAWN: usize = 12;
+
     /// The numbers that no pass comes to: none fills the desk, or draws all
     /// numbers of a host.
     const TOO_FAR: [usize; 2] = [24, 25];
@@ -110,7 +113,7 @@ mod tests {
     #[test]
     fn every_kind_is_accepted_and_all_but_two_numbers_are_given() {
         let tally = Tally::of(&logs());
-        for kind in Kind::ALL {
+        for &kind in &Kind::ALL[..DRAWN] {
             assert!(tally.accepted(kind) > 0, "no {} is accepted", kind.word());
         }
         let missing: Vec<usize> = numbers().filter(|&n| tally.refused(n) == 0).collect();

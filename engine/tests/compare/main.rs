@@ -4,6 +4,8 @@
 //! the one that `REPLAY` names, else `../target/bin/replay`.
 
 mod alike;
+#[path = "../shared/check_table.rs"]
+mod check_table;
 mod examples;
 mod expected;
 mod full_pair;

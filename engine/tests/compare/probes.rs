@@ -4,16 +4,16 @@
 
 use crate::log::{append_random, desk_after, Feed, Log};
 use crate::random::MIXES;
+use engine::proposals::step_of;
 use engine::{Kind, Rank, Step};
 
 /// All steps with ranks and hosts up to one past the last.
 fn all_steps() -> impl Iterator<Item = Step> {
     let past = Rank::COUNT as u8;
     Kind::ALL.into_iter().flat_map(move |kind| {
-        let last = if kind.body_length() == 1 { 0 } else { past };
-        (0..=past).flat_map(move |first| {
-            (0..=last).map(move |second| Step::from_fields(kind, first, second, 9))
-        })
+        let last = if kind.body().len() == 1 { 0 } else { past };
+        (0..=past)
+            .flat_map(move |first| (0..=last).map(move |second| step_of(kind, [first, second], 9)))
     })
 }
 

@@ -4,7 +4,7 @@
 
 use crate::log::{record_starts, Feed, Log};
 use engine::bits::Bits;
-use engine::generate::{random_log, Mix};
+use engine::proposals::{random_log, Mix};
 
 const COUNT: usize = 2_520;
 
@@ -22,7 +22,7 @@ pub const MIXES: [(&str, Mix); 7] = [
 
 /// Many ranks move at once, and lines stand between them.
 const MOVES: Mix = Mix {
-    weights: [8, 30, 40, 40, 12, 10, 4, 24, 6, 2, 0, 6],
+    weights: &[8, 30, 40, 40, 12, 10, 4, 24, 6, 2, 0, 6],
     stray_one_in: 30,
     most_ended: 0,
     ..Mix::BROAD
@@ -36,7 +36,7 @@ const STRAYS_IN_MOVES: Mix = Mix {
 
 /// Ranks read what they have, part and end.
 const ENDS: Mix = Mix {
-    weights: [6, 20, 24, 10, 30, 3, 8, 16, 8, 12, 8, 4],
+    weights: &[6, 20, 24, 10, 30, 3, 8, 16, 8, 12, 8, 4],
     stray_one_in: 20,
     most_ended: 14,
     ..Mix::BROAD
@@ -50,7 +50,7 @@ const STRAYS: Mix = Mix {
 
 /// The desk is filled as fast as it can be.
 const FILLING: Mix = Mix {
-    weights: [8, 40, 50, 900, 1, 6, 4, 8, 4, 1, 0, 4],
+    weights: &[8, 40, 50, 900, 1, 6, 4, 8, 4, 1, 0, 4],
     stray_one_in: 40,
     most_ended: 0,
     ..Mix::BROAD

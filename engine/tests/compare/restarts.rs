@@ -8,7 +8,7 @@ use crate::log::{log_of, Feed, Log};
 use crate::probes::append_refused;
 use crate::random::with_spoiled;
 use engine::bits::Bits;
-use engine::generate::{random_log, Mix};
+use engine::proposals::{random_log, Mix};
 use engine::Rank;
 
 const COUNT: usize = 200;
@@ -36,7 +36,7 @@ const STRAYS: Mix = Mix {
 
 /// Lists and lanes are full of messages.
 const LADEN: Mix = Mix {
-    weights: [8, 40, 50, 300, 30, 24, 12, 120, 16, 16, 0, 4],
+    weights: &[8, 40, 50, 300, 30, 24, 12, 120, 16, 16, 0, 4],
     ..Mix::RESTARTS
 };
 

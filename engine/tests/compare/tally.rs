@@ -1,6 +1,7 @@
 //! What a set of logs reaches: how many steps, how often each kind is accepted
 //! and each number given, and the situations that are easy to get wrong.
 
+use crate::check_table::NAMED;
 use crate::log::Log;
 use crate::situations::Situations;
 use engine::{Desk, Kind, Refusal, Step};
@@ -22,35 +23,6 @@ pub fn numbers() -> impl Iterator<Item = usize> {
 
 /// Bytes that are no kind are counted together, before the kinds.
 const SORTS: usize = Kind::ALL.len() + 1;
-
-/// For each number from 4 on but 18, the kinds that paper 01's table names.
-#[rustfmt::skip]
-const NAMED: [(usize, &[Kind]); 21] = {
-    use Kind::{Call, Drain, End, Heed, Land, Look, Move, Part, Route, Send, Start, Take};
-    [
-        (4, &Kind::ALL),
-        (5, &[Start, Move]),
-        (6, &[Call, Route, Send, Take, Heed, Drain, Part]),
-        (7, &[Call, Route, Send, Take, Move, Heed, Drain, Land, Part, End, Look]),
-        (8, &[Start]),
-        (9, &[Call, Send, Take, Move, Heed, Drain, Land, Part, End, Look]),
-        (10, &[Call, Send, Take, Move, Part, End, Look]),
-        (11, &[Drain, Land]),
-        (12, &[Call, End]),
-        (13, &[Call, Move, End]),
-        (14, &[Route]),
-        (15, &[Send, Part]),
-        (16, &[Part]),
-        (17, &[Heed]),
-        (19, &[Land]),
-        (20, &[Drain]),
-        (21, &[Drain]),
-        (22, &[Take, Look]),
-        (23, &[End]),
-        (24, &[Send]),
-        (25, &[Start, Move]),
-    ]
-};
 
 /// The counts of a set of logs.
 pub struct Tally {
@@ -140,14 +112,19 @@ impl Tally {
             assert!(self.answers[3][kind as usize] > 0, "no {word} is cut short");
         }
         assert!(self.answers[2][0] > 0, "no unknown kind");
-        for (number, kinds) in NAMED {
-            for &kind in kinds {
-                let count = self.answers[number][kind as usize];
-                assert!(count > 0, "no {} gets {number}", kind.word());
+        let handed_in = HANDED_IN.map(Refusal::number);
+        let given = NAMED
+            .iter()
+            .filter(|(number, _)| !handed_in.contains(number));
+        for (number, words) in given {
+            for word in *words {
+                let kind = Kind::from_word(word).unwrap();
+                let count = self.answers[usize::from(*number)][kind as usize];
+                assert!(count > 0, "no {word} gets {number}");
             }
         }
         let withdrawn = Refusal::WITHDRAWN.map(|(number, ..)| number);
-        for number in withdrawn.into_iter().chain(HANDED_IN.map(Refusal::number)) {
+        for number in withdrawn.into_iter().chain(handed_in) {
             assert_eq!(self.refused(usize::from(number)), 0, "{number} is given");
         }
         for (situation, count) in self.situations.rows() {

@@ -3,7 +3,7 @@
 //! logs end close to an edge.
 
 use crate::log::{append_random, log_of, Feed, Log};
-use engine::generate::Mix;
+use engine::proposals::Mix;
 
 const EDGE: usize = 65_536;
 
@@ -57,7 +57,7 @@ pub fn logs() -> Vec<Log> {
             }
         }
         if first == 0 {
-            let unknown = [&long[..EDGE], &[0x0D, 0, 0]].concat();
+            let unknown = [&long[..EDGE], &[0x7F, 0, 0]].concat();
             logs.push(Log::new(name("unknown"), unknown, Feed::Pipe));
         }
         logs.push(Log::new(name("pipe"), long.clone(), Feed::Pipe));

@@ -191,7 +191,7 @@ fn lines_come_while_bytes_come_one_by_one() {
 fn an_unknown_kind_ends_the_run_while_the_input_is_open() {
     let Some(mut command) = command() else { return };
     let mut running = Running::start_piped(&mut command);
-    let log = [&listing_log()[..], &[0x0D]].concat();
+    let log = [&listing_log()[..], &[0x7F]].concat();
     running.write(&log);
     let expected = String::from_utf8(run_slice(&log)).unwrap();
     assert_eq!(running.printed_to(21), expected);

@@ -1,7 +1,7 @@
 //! The logs that the programs get, record by record and as files.
 
 use crate::printed_run::STEPS;
-use engine::generate::{random_log, Mix};
+use engine::proposals::{random_log, Mix};
 use engine::text::encode;
 use engine::{Kind, Step};
 use std::fs::{self, File};

@@ -1,9 +1,7 @@
 //! What is said of a line that is no record: its number, and what was expected.
 
+use crate::step_log::KINDS;
 use engine::text::{encode, told, TextError, MOST_ERRORS};
-
-const KINDS: &str =
-    "start, call, route, send, take, move, heed, drain, land, part, end, look, bytes";
 
 /// What is said of a text.
 fn complaint(text: &str) -> String {
@@ -13,13 +11,18 @@ fn complaint(text: &str) -> String {
     }
 }
 
+/// What is said of a first line with this unknown word.
+fn unknown(word: &str) -> String {
+    let known = KINDS.map(|(_, word, _)| word).join(", ");
+    format!("line 1: '{word}' is no record kind; one of {known}, bytes")
+}
+
 #[test]
 fn an_unknown_word_is_named() {
     for word in [
         "sned", "Start", "SEND", "0", "look,", "byte", "\u{FFFD}", "12",
     ] {
-        let expected = format!("line 1: '{word}' is no record kind; one of {KINDS}");
-        assert_eq!(complaint(&format!("{word} 0 1")), expected);
+        assert_eq!(complaint(&format!("{word} 0 1")), unknown(word));
     }
 }
 
@@ -157,8 +160,7 @@ fn a_long_word_is_cut() {
         (&long[..81], format!("{}..", &long[..80])),
         (&long, format!("{}..", &long[..80])),
     ] {
-        let expected = format!("line 1: '{shown}' is no record kind; one of {KINDS}");
-        assert_eq!(complaint(word), expected);
+        assert_eq!(complaint(word), unknown(&shown));
         let expected = format!("line 1: rank '{shown}' is not a number from 0 to 255");
         assert_eq!(complaint(&format!("look {word}")), expected);
         let expected = format!("line 1: byte '{shown}' is not a hexadecimal number from 0 to ff");

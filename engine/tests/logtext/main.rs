@@ -5,3 +5,5 @@ mod errors;
 mod program;
 mod reading;
 mod round_trips;
+#[path = "../shared/step_log.rs"]
+mod step_log;

@@ -1,7 +1,7 @@
 //! The program `logtext`: both ways, what it says of wrong texts, and that it
 //! then writes no log.
 
-use engine::generate::{random_log, Mix};
+use engine::proposals::{random_log, Mix};
 use engine::text::decode;
 use std::fs::File;
 use std::io::Write;
@@ -41,7 +41,7 @@ fn a_wrong_line_is_reported_and_nothing_written() {
     assert_eq!(output.stdout, b"");
     let said = String::from_utf8(output.stderr).unwrap();
     assert!(said.starts_with("line 3: 'sned' is no record kind; one of start, call,"));
-    assert!(said.ends_with("look, bytes\nline 4: look needs rank\n"));
+    assert!(said.ends_with(", bytes\nline 4: look needs rank\n"));
 }
 
 /// Text in another encoding is fine in a comment, and shown elsewhere.

@@ -1,41 +1,35 @@
-//! What a text stands for, against bytes written by hand from paper 01, "The
-//! step log".
+//! What a text stands for, against the records of paper 01, "The step log".
 
+use crate::step_log::{record_of, Listed, KINDS};
 use engine::text::{decode, encode};
 
-/// A line of each kind, with its record.
-const LINES: [(&str, &[u8]); 13] = [
-    ("start 1 2", &[0x01, 1, 2]),
-    ("call 3 4", &[0x02, 3, 4]),
-    ("route 5 6", &[0x03, 5, 6]),
-    ("send 7 8 500", &[0x04, 7, 8, 0xF4, 0x01, 0, 0]),
-    ("take 9 10", &[0x05, 9, 10]),
-    ("move 11 7", &[0x06, 11, 7]),
-    ("heed 12 13", &[0x07, 12, 13]),
-    ("drain 14 15", &[0x08, 14, 15]),
-    ("land 16", &[0x09, 16]),
-    ("part 255 0", &[0x0A, 255, 0]),
-    ("end 17", &[0x0B, 17]),
-    ("look 18", &[0x0C, 18]),
-    ("bytes 4 0 1 ff", &[0x04, 0x00, 0x01, 0xFF]),
-];
+/// A line of each kind: a value of four different bytes, and for every other
+/// field the byte of its letter.
+fn lines() -> Vec<String> {
+    let number = |field: &&str| match *field {
+        "value" => 0x0403_0201,
+        letter => u32::from(letter.as_bytes()[0]),
+    };
+    let line = |&(_, word, body): &Listed| {
+        let numbers = body.iter().map(|field| format!(" {}", number(field)));
+        word.to_owned() + &numbers.collect::<String>()
+    };
+    KINDS.iter().map(line).collect()
+}
 
 #[test]
 fn each_kind_is_its_record() {
-    for (line, record) in LINES {
-        assert_eq!(encode(line).unwrap(), record, "{line}");
-        assert_eq!(decode(record), format!("{line}\n"));
+    for line in lines() {
+        let record = record_of(&line);
+        assert_eq!(encode(&line).unwrap(), record, "{line}");
+        assert_eq!(decode(&record), format!("{line}\n"));
     }
 }
 
 #[test]
 fn lines_follow_each_other() {
-    let text: String = LINES.iter().map(|(line, _)| format!("{line}\n")).collect();
-    let log: Vec<u8> = LINES
-        .iter()
-        .flat_map(|(_, record)| *record)
-        .copied()
-        .collect();
+    let text = lines().join("\n") + "\n";
+    let log: Vec<u8> = text.lines().flat_map(record_of).collect();
     assert_eq!(encode(&text).unwrap(), log);
     assert_eq!(decode(&log), text);
 }
@@ -92,7 +86,9 @@ fn numbers_are_decimal_or_hexadecimal() {
 #[test]
 fn what_is_no_record_is_one_line_of_bytes() {
     assert_eq!(decode(&[0]), "bytes 0\n");
-    assert_eq!(decode(&[0x0D, 1, 0, 0]), "bytes d 1 0 0\n");
+    assert_eq!(decode(&[0x04, 0, 1, 0xFF]), "bytes 4 0 1 ff\n");
+    assert_eq!(encode("bytes 4 0 1 ff").unwrap(), [0x04, 0, 1, 0xFF]);
+    assert_eq!(decode(&[0x7F, 1, 0, 0]), "bytes 7f 1 0 0\n");
     assert_eq!(decode(&[0x0C, 3, 0x04, 0, 1, 2]), "look 3\nbytes 4 0 1 2\n");
     let log = [0x01, 0, 0, 0xFF, 0x01, 1, 1];
     assert_eq!(decode(&log), "start 0 0\nbytes ff 1 1 1\n");

@@ -1,7 +1,7 @@
 //! Every log has a text that gives it back, and a text that a log gives is
 //! given back by the log that it stands for.
 
-use engine::generate::{random_log, Mix};
+use engine::proposals::{random_log, Mix};
 use engine::text::{decode, encode};
 
 /// The text of a log, after both ways round.

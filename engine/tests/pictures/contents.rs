@@ -3,7 +3,7 @@
 
 use crate::drawing::{draw, example, examples, file_with};
 use crate::xml;
-use engine::generate::{random_log, Mix};
+use engine::proposals::{random_log, Mix};
 use engine::text::{decode, encode};
 use engine::{Await, Desk, Place, Rank, Step};
 use std::collections::BTreeMap;
@@ -87,7 +87,8 @@ fn expected(log: &[u8]) -> Expected {
             }
             Err(refusal) => {
                 expected.text("faint", text);
-                let shown = 1 + usize::from(Rank(step.fields().1).in_range());
+                let on_a_bar = step.ranks().next().is_some_and(Rank::in_range);
+                let shown = 1 + usize::from(on_a_bar);
                 (0..shown).for_each(|_| expected.text("number", refusal.number()));
             }
         }

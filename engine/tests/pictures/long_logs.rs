@@ -2,7 +2,7 @@
 
 use crate::drawing::command;
 use crate::xml;
-use engine::generate::{random_log, Mix};
+use engine::proposals::{random_log, Mix};
 use std::fs;
 use std::io::{Read, Write};
 use std::process::Stdio;

@@ -1,7 +1,7 @@
 //! Where a picture can't be put.
 
 use crate::drawing::{command, end_of, example, file_with};
-use engine::generate::{random_log, Mix};
+use engine::proposals::{random_log, Mix};
 use std::fs::File;
 use std::process::Stdio;
 

@@ -2,7 +2,7 @@
 
 use crate::drawing::{command, draw, end_of, example, examples, file_with};
 use crate::xml;
-use engine::generate::{random_log, Mix};
+use engine::proposals::{random_log, Mix};
 use std::fs::{self, File};
 use std::io::{Read, Write};
 use std::process::Stdio;

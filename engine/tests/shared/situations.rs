@@ -70,8 +70,7 @@ impl Situations {
     /// Looks at an accepted step after it is made.
     pub fn note_after(&mut self, step: Step, values: Values) {
         self.running_numbers.note_after(step, values);
-        let (kind, ..) = step.fields();
-        match (kind, values[0]) {
+        match (step.kind(), values[0]) {
             (Kind::Route, 1) => self.reroutes += 1,
             (Kind::Route, 2) => self.routes_to_ended += 1,
             (Kind::Heed, moved) => self.heeds_that_moved += u64::from(moved > 0),

@@ -2,8 +2,8 @@
 //! the record, except at 1, 2 and 3, where it stays", and where a run stops.
 
 use crate::printed_run::{LISTING, STEPS};
-use crate::text::{desk_after, log_of, TWO};
-use engine::generate::{random_log, Mix};
+use crate::text::{desk_after, log_of, record_length, TWO};
+use engine::proposals::{random_log, Mix};
 use engine::{run_slice, step, Desk, Outcome, Refusal};
 
 /// The position that a line of a printed run starts with.
@@ -64,8 +64,8 @@ fn a_step_reads_at_any_position() {
 #[test]
 fn a_run_stops_after_a_2() {
     let mut log = log_of("start 0 0, start 16 0");
-    log.extend([0x0D, 0x01, 0x01, 0x01]);
-    let expected = "0 01 0 0 1 0\n3 01 4 0 0 0\n6 0D 2 0 0 0\nend\n";
+    log.extend([0x7F, 0x01, 0x01, 0x01]);
+    let expected = "0 01 0 0 1 0\n3 01 4 0 0 0\n6 7F 2 0 0 0\nend\n";
     assert_eq!(run_slice(&log), expected.as_bytes());
     assert_eq!(run_slice(&[0xFE]), b"0 FE 2 0 0 0\nend\n");
     assert_eq!(run_slice(&[0x00, 0x01]), b"0 00 2 0 0 0\nend\n");
@@ -82,7 +82,6 @@ fn a_refused_record_is_passed_and_the_run_goes_on() {
 /// the one that the answer and the kind's length ask for.
 #[test]
 fn garbage_moves_the_position_only_past_whole_records() {
-    const LENGTHS: [u64; 12] = [3, 3, 3, 7, 3, 3, 3, 3, 2, 3, 2, 2];
     let mut bits: u32 = 0x2545_F491;
     let mut seen = [0_u32; 3];
     for round in 0..200 {
@@ -103,22 +102,22 @@ fn garbage_moves_the_position_only_past_whole_records() {
         for position in 0..garbage.len() as u64 {
             let kind = garbage[position as usize];
             let outcome = desk.step_sound(&garbage, position);
-            let left = garbage.len() as u64 - position;
-            let next = match LENGTHS.get(usize::from(kind).wrapping_sub(1)) {
+            let left = garbage.len() - position as usize;
+            let next = match record_length(kind) {
                 None => {
                     assert_eq!(outcome.answer, Err(Refusal::UnknownKind));
                     seen[0] += 1;
                     position
                 }
-                Some(&length) if length > left => {
+                Some(length) if length > left => {
                     assert_eq!(outcome.answer, Err(Refusal::CutShort));
                     seen[1] += 1;
                     position
                 }
-                Some(&length) => {
+                Some(length) => {
                     assert!(!outcome.answer.is_err_and(Refusal::keeps_position));
                     seen[2] += 1;
-                    position + length
+                    position + length as u64
                 }
             };
             assert_eq!(outcome.next, next);

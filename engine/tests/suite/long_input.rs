@@ -4,7 +4,7 @@
 
 use crate::program::{replay, replay_from};
 use crate::text::{log_of, JOINED};
-use engine::generate::{random_log, Mix};
+use engine::proposals::{random_log, Mix};
 use engine::{run_slice, run_stream, RunError};
 use std::fs::{self, File, OpenOptions};
 use std::io::{self, ErrorKind, Read};
@@ -122,7 +122,7 @@ fn streams_in_pieces_of_any_length_print_the_same() {
 #[test]
 fn streams_end_as_whole_logs_do_after_a_2_and_a_3() {
     let whole = random_log(8, Mix::BROAD, 25_000);
-    for tail in [&[0x0D, 1, 1][..], &[0x04, 0, 1, 9], &[0x0A]] {
+    for tail in [&[0x7F, 1, 1][..], &[0x04, 0, 1, 9], &[0x0A]] {
         let log = [&whole[..], tail].concat();
         let expected = run_slice(&log);
         assert_eq!(stream(&log, 1_000, None).0, expected);

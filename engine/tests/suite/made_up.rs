@@ -3,8 +3,9 @@
 //! left as it was.
 
 use crate::made_up_log::made_up_log;
+use crate::step_log::KINDS;
 use crate::text::log_of;
-use engine::{made_up, MadeUp, NotMade, Step};
+use engine::{made_up, MadeUp, NotMade};
 
 /// What a buffer holds before.
 const UNTOUCHED: u8 = 0xA5;
@@ -44,18 +45,20 @@ fn first_records_are_those_computed_by_hand() {
     assert_eq!(made_up_log(3, 1), [0x04, 3, 7, 0x49, 0x20, 0xCD, 0x71]);
 }
 
-/// The fields of a record, drawn anew: modulo 8 for the host of a start and a
-/// move, modulo 16 for every rank, and a whole draw for a send's value.
-fn drawn_fields(pass: &mut MadeUp) -> (u8, u8, u8, u32) {
-    let kind = 1 + (pass.draw() % 12) as u8;
-    let first = (pass.draw() % 16) as u8;
-    let second = match kind {
-        0x01 | 0x06 => (pass.draw() % 8) as u8,
-        0x09 | 0x0B | 0x0C => 0,
-        _ => (pass.draw() % 16) as u8,
-    };
-    let value = if kind == 0x04 { pass.draw() } else { 0 };
-    (kind, first, second, value)
+/// A record drawn anew: its kind is "1 plus the draw modulo 12", its body
+/// "modulo 16 for a rank and 8 for a host; a send's value is one whole draw".
+fn drawn_record(pass: &mut MadeUp) -> Vec<u8> {
+    let (kind, _, body) = KINDS[pass.draw() as usize % 12];
+    let mut record = vec![kind];
+    for &field in body {
+        let draw = pass.draw();
+        match field {
+            "h" => record.push((draw % 8) as u8),
+            "value" => record.extend(draw.to_le_bytes()),
+            _ => record.push((draw % 16) as u8),
+        }
+    }
+    record
 }
 
 #[test]
@@ -65,11 +68,9 @@ fn every_record_is_what_its_draws_give() {
         let mut pass = MadeUp::new(seed).unwrap();
         let mut rest = &log[..];
         for record in 0..20_000 {
-            let (step, length) = Step::read(rest).unwrap();
-            let (kind, first, second, value) = step.fields();
-            let found = (kind as u8, first, second, value);
-            assert_eq!(found, drawn_fields(&mut pass), "seed {seed}, {record}");
-            rest = &rest[length..];
+            let drawn = drawn_record(&mut pass);
+            assert!(rest.starts_with(&drawn), "seed {seed}, {record}");
+            rest = &rest[drawn.len()..];
         }
         assert!(rest.is_empty());
     }

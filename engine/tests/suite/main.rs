@@ -3,6 +3,8 @@
 //! of any bytes and any length; paper 02's made-up passes, restarts, full pairs
 //! and running numbers.
 
+#[path = "../shared/check_table.rs"]
+mod check_table;
 mod edges;
 mod full_pair;
 mod listing;
@@ -18,10 +20,14 @@ mod printed_run;
 mod program;
 mod random_steps;
 mod refusals;
+#[path = "../shared/refused_records.rs"]
+mod refused_records;
 mod restarts;
 mod running_numbers;
 #[path = "../shared/situations.rs"]
 mod situations;
 mod spent_pair;
+#[path = "../shared/step_log.rs"]
+mod step_log;
 mod text;
 mod unsound;

@@ -4,7 +4,7 @@
 //! after each step.
 
 use crate::plain_table::lowest_number;
-use engine::generate::{Generator, Mix};
+use engine::proposals::{Mix, Proposer};
 use engine::refusal::{number_of, values_of};
 use engine::{Await, Call, Desk, Host, Line, Message, Rank, Snapshot, Standing, Values, Vmid};
 
@@ -198,11 +198,11 @@ fn compare(seed: u64, mix: Mix, steps: usize) {
 
 /// From a sound state; how many steps got 28 is given.
 fn compare_from(mut plain: Snapshot, seed: u64, mix: Mix, steps: usize) -> usize {
-    let mut generator = Generator::new(seed, mix);
+    let mut proposer = Proposer::new(seed, mix);
     let mut desk = Desk::from_snapshot(&plain).expect("the state is sound");
     let mut exhausted = 0;
     for _ in 0..steps {
-        let step = generator.propose(&desk);
+        let step = proposer.propose(&desk);
         let mut record = Vec::new();
         step.write(&mut record);
         let answer = desk.step_sound(&record, 0).answer;

@@ -1,16 +1,20 @@
-//! Paper 01's table of checks read row by row on the plain state, without the
-//! row of 18, which paper 02, Change 2, has "given no more", and with 28, which
-//! Change 4 adds: each number has its own test of when it is given, and the
+//! Paper 01's table of checks read row by row on the plain state, as paper 02
+//! has changed it: each number has its own test of when it is given, and the
 //! lowest that applies is given. The engine's own checks are ordered kind by
 //! kind; the two must agree.
 
+use crate::check_table::NAMED;
+use crate::step_log::{Listed, KINDS};
 use engine::{Await, Line, Snapshot, Standing};
 
 /// The lowest number of the table that applies to a whole record of a known
 /// kind in a sound state, or 0.
 pub fn lowest_number(state: &Snapshot, record: &[u8]) -> u8 {
     let row = Row { state, record };
-    let mut numbers = (4..=17).chain(19..=25).chain([28]);
+    let named = NAMED
+        .iter()
+        .filter(|(_, words)| words.contains(&row.word()));
+    let mut numbers = named.map(|(number, _)| *number);
     numbers.find(|&number| row.applies(number)).unwrap_or(0)
 }
 
@@ -20,20 +24,20 @@ struct Row<'a> {
 }
 
 impl Row<'_> {
-    fn kind(&self) -> u8 {
-        self.record[0]
+    fn listed(&self) -> &'static Listed {
+        let mut kinds = KINDS.iter();
+        kinds.find(|(kind, ..)| *kind == self.record[0]).unwrap()
     }
 
-    fn is(&self, kinds: &[u8]) -> bool {
-        kinds.contains(&self.kind())
+    fn word(&self) -> &'static str {
+        self.listed().1
     }
 
-    /// The ranks that the record names: all fields but hosts and the value.
-    fn ranks(&self) -> &[u8] {
-        match self.kind() {
-            0x01 | 0x06 | 0x09 | 0x0B | 0x0C => &self.record[1..2],
-            _ => &self.record[1..3],
-        }
+    /// The ranks that the record names: one byte each, before all longer fields.
+    fn ranks(&self) -> Vec<u8> {
+        let fields = self.listed().2.iter().zip(&self.record[1..]);
+        let ranks = fields.filter(|(field, _)| matches!(**field, "a" | "b" | "r" | "s"));
+        ranks.map(|(_, &rank)| rank).collect()
     }
 
     fn first(&self) -> usize {
@@ -52,6 +56,10 @@ impl Row<'_> {
         self.state.lines[self.first()][self.second()]
     }
 
+    fn awaited(&self) -> Await {
+        self.state.awaits[self.first()][self.second()]
+    }
+
     /// Messages from a sender to a receiver, at any of these places.
     fn any_message(&self, sender: Option<usize>, receiver: usize, places: &[u8]) -> bool {
         self.state.messages.iter().any(|message| {
@@ -61,58 +69,54 @@ impl Row<'_> {
         })
     }
 
+    /// Whether a number applies to a kind that is named for it.
     fn applies(&self, number: u8) -> bool {
         const ANY_PLACE: &[u8] = &[0, 1, 2, 3];
         let state = self.state;
         match number {
             4 => self.ranks().iter().any(|&rank| rank > 15),
-            5 => self.is(&[0x01, 0x06]) && self.record[2] > 7,
-            6 => matches!(self.ranks(), [one, other] if one == other),
+            5 => self.second() > 7,
+            6 => matches!(self.ranks()[..], [one, other] if one == other),
             7 => {
-                let unstarted =
-                    |&rank: &u8| state.standings[usize::from(rank)] == Standing::Unstarted;
-                !self.is(&[0x01]) && self.ranks().iter().any(unstarted)
+                let standings = self.ranks().into_iter().map(usize::from);
+                let mut standings = standings.map(|rank| state.standings[rank]);
+                standings.any(|standing| standing == Standing::Unstarted)
             }
-            8 => self.is(&[0x01]) && self.standing() != Standing::Unstarted,
-            9 => !self.is(&[0x01, 0x03]) && self.standing().is_ended(),
-            10 => {
-                self.is(&[0x02, 0x04, 0x05, 0x06, 0x0A, 0x0B, 0x0C]) && self.standing().is_moving()
-            }
-            11 => self.is(&[0x08, 0x09]) && !self.standing().is_moving(),
-            12 => match self.kind() {
-                0x02 => self.line() != Line::None,
-                0x0B => state.lines[self.first()]
+            8 => self.standing() != Standing::Unstarted,
+            9 => self.standing().is_ended(),
+            10 => self.standing().is_moving(),
+            11 => !self.standing().is_moving(),
+            12 => match self.word() {
+                "call" => self.line() != Line::None,
+                _ => state.lines[self.first()]
                     .iter()
                     .any(|&line| line != Line::None),
-                _ => false,
             },
-            13 => self.is(&[0x02, 0x06, 0x0B]) && state.calls[self.first()].is_some(),
+            13 => state.calls[self.first()].is_some(),
             14 => {
                 let called = state.calls[self.first()].map(|call| call.called.index());
-                self.is(&[0x03]) && called != Some(self.second())
+                called != Some(self.second())
             }
-            15 => self.is(&[0x04, 0x0A]) && self.line() == Line::None,
-            16 => self.is(&[0x0A]) && self.line() == Line::Notice,
-            17 => self.is(&[0x07]) && self.line() != Line::Notice,
+            15 => self.line() == Line::None,
+            16 => self.line() == Line::Notice,
+            17 => self.line() != Line::Notice,
             19 => {
                 let awaits = &state.awaits[self.first()];
-                self.is(&[0x09]) && awaits.iter().any(|&awaited| awaited != Await::None)
+                awaits.iter().any(|&awaited| awaited != Await::None)
             }
-            20 => self.is(&[0x08]) && state.awaits[self.first()][self.second()] == Await::None,
+            20 => self.awaited() == Await::None,
             21 => {
-                self.is(&[0x08])
-                    && !self.any_message(Some(self.second()), self.first(), &[1])
-                    && state.awaits[self.first()][self.second()] == Await::Unheeded
+                !self.any_message(Some(self.second()), self.first(), &[1])
+                    && self.awaited() == Await::Unheeded
             }
-            22 => match self.kind() {
-                0x05 => !self.any_message(Some(self.second()), self.first(), ANY_PLACE),
-                0x0C => !self.any_message(None, self.first(), ANY_PLACE),
-                _ => false,
+            22 => match self.word() {
+                "take" => !self.any_message(Some(self.second()), self.first(), ANY_PLACE),
+                _ => !self.any_message(None, self.first(), ANY_PLACE),
             },
-            23 => self.is(&[0x0B]) && self.any_message(None, self.first(), ANY_PLACE),
-            24 => self.is(&[0x04]) && state.messages.len() >= 1_024,
-            25 => self.is(&[0x01, 0x06]) && state.drawn[self.second()] >= 65_535,
-            28 => self.is(&[0x04]) && state.sent[self.first()][self.second()] == 4_294_967_295,
+            23 => self.any_message(None, self.first(), ANY_PLACE),
+            24 => state.messages.len() >= 1_024,
+            25 => state.drawn[self.second()] >= 65_535,
+            28 => state.sent[self.first()][self.second()] == 4_294_967_295,
             _ => unreachable!("the table has no such row"),
         }
     }

@@ -4,7 +4,7 @@
 //! situations that are easy to get wrong.
 
 use crate::situations::Situations;
-use engine::generate::{Generator, Mix};
+use engine::proposals::{Mix, Proposer};
 use engine::{broken_clauses, Desk, Kind, Rank, Snapshot, Step, Values};
 
 const STEPS: usize = 25_000;
@@ -94,12 +94,12 @@ impl Reached {
 
 /// Checks a list step by step, and gives the desk that it leaves.
 fn run(seed: u64, mix: Mix, reached: &mut Reached) -> Desk {
-    let mut generator = Generator::new(seed, mix);
+    let mut proposer = Proposer::new(seed, mix);
     let mut desk = Desk::fresh();
     let mut history = History::new();
     let mut record = Vec::new();
     for _ in 0..STEPS {
-        let step = generator.propose(&desk);
+        let step = proposer.propose(&desk);
         reached.situations.note_before(&desk, step);
         record.clear();
         step.write(&mut record);
@@ -108,7 +108,7 @@ fn run(seed: u64, mix: Mix, reached: &mut Reached) -> Desk {
         if let Ok(values) = outcome.answer {
             history.note(step, values);
             reached.situations.note_after(step, values);
-            reached.accepted[step.fields().0 as usize - 1] += 1;
+            reached.accepted[step.kind().index()] += 1;
         }
         let state = desk.snapshot();
         assert_eq!(broken_clauses(&state), [], "seed {seed} after {step:?}");

@@ -1,7 +1,7 @@
 //! Restarts, paper 02, Change 2: "A move to the rank's present host is accepted
 //! and draws a number like any other."
 
-use crate::refusals::CROWD;
+use crate::refused_records::CROWD;
 use crate::text::{
     answer_after, answers_of, desk_after, desk_after_log, log_of, number_after, JOINED, TWO,
 };

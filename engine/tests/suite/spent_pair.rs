@@ -2,7 +2,8 @@
 //! the pair has already sent 4,294,967,295, tested after 25." No test sends so
 //! many: the states are handed in.
 
-use crate::refusals::{spent, CROWD};
+use crate::refusals::spent;
+use crate::refused_records::CROWD;
 use crate::text::{answers_of, desk_after, log_of, JOINED};
 use engine::refusal::{number_of, values_of};
 use engine::{is_sound, step, Desk, Outcome, Rank, Refusal, Snapshot};

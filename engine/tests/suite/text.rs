@@ -1,15 +1,10 @@
 //! Logs written as paper 01 writes them, "start 0 0, call 0 1", and desks that
-//! have run them. Bytes are made here from the paper's list of kinds, apart
-//! from the engine's own writer of records.
+//! have run them. Bytes are made from the tests' own list of kinds, apart from
+//! the engine's writer of records.
 
+use crate::step_log::{field_length, record_of, KINDS};
 use engine::refusal::number_of;
 use engine::{Answer, Desk};
-
-/// The kinds of "The step log" from 01 on.
-pub const WORDS: [&str; 12] = [
-    "start", "call", "route", "send", "take", "move", "heed", "drain", "land", "part", "end",
-    "look",
-];
 
 /// Ranks 0 and 1 started on hosts 0 and 1.
 pub const TWO: &str = "start 0 0, start 1 1";
@@ -17,26 +12,17 @@ pub const TWO: &str = "start 0 0, start 1 1";
 /// Ranks 0 and 1 started and joined by a plain line.
 pub const JOINED: &str = "start 0 0, start 1 1, call 0 1, route 0 1";
 
-/// The byte of a record's kind.
-pub fn kind_of(record: &str) -> u8 {
-    let word = record.split(' ').next().unwrap();
-    let index = WORDS.iter().position(|&known| known == word);
-    index.unwrap_or_else(|| panic!("no kind is called {word}")) as u8 + 1
-}
-
 /// The log of these steps.
 pub fn log_of(steps: &str) -> Vec<u8> {
-    let mut log = Vec::new();
-    for record in steps.split(", ").filter(|record| !record.is_empty()) {
-        log.push(kind_of(record));
-        for (index, field) in record.split(' ').skip(1).enumerate() {
-            match index {
-                0 | 1 => log.push(field.parse().unwrap()),
-                _ => log.extend(field.parse::<u32>().unwrap().to_le_bytes()),
-            }
-        }
-    }
-    log
+    let records = steps.split(", ").filter(|record| !record.is_empty());
+    records.flat_map(record_of).collect()
+}
+
+/// How many bytes a record has whose first byte this is; none where it is no
+/// kind.
+pub fn record_length(byte: u8) -> Option<usize> {
+    let (.., body) = KINDS.iter().find(|(kind, ..)| *kind == byte)?;
+    Some(1 + body.iter().map(|field| field_length(field)).sum::<usize>())
 }
 
 /// Runs a log of whole records on a desk, and gives all answers.

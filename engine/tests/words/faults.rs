@@ -1,7 +1,7 @@
 //! Outputs that cannot be written and inputs that cannot be read.
 
 use crate::program::{file_with, log_of, words};
-use engine::generate::{random_log, Mix};
+use engine::proposals::{random_log, Mix};
 use std::fs::File;
 use std::io::{BufRead, BufReader, Read};
 use std::process::{Output, Stdio};

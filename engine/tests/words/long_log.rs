@@ -3,7 +3,7 @@
 
 use crate::peak_memory::peak_memory_kib;
 use crate::program::{file_with, words};
-use engine::generate::{random_log, Mix};
+use engine::proposals::{random_log, Mix};
 use engine::run_slice;
 use std::io::Read;
 use std::process::{Child, Stdio};

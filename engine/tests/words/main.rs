@@ -3,6 +3,8 @@
 //! words are indented; the others are the printed run.
 
 mod broken_program;
+#[path = "../shared/check_table.rs"]
+mod check_table;
 mod faults;
 #[path = "../shared/feigned_program.rs"]
 mod feigned_program;
@@ -16,4 +18,6 @@ mod program;
 #[path = "../shared/proved_program.rs"]
 mod proved_program;
 mod refused;
+#[path = "../shared/refused_records.rs"]
+mod refused_records;
 mod summary;

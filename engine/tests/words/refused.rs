@@ -2,52 +2,24 @@
 //! and what to do. 28 would need a log of 4,294,967,295 sends over one pair: a
 //! program in the proved one's place gives it.
 
+use crate::check_table::NAMED;
 use crate::feigned_program::root_with;
 use crate::program::{assert_told, file_with, log_of, printed, run_within, told_of};
+use crate::refused_records::ROWS;
 use engine::{run_slice, Kind, Refusal};
 use std::process::Command;
 
-const ALONE: &str = "start 0 0";
-const TWO: &str = "start 0 0, start 1 1";
-const JOINED: &str = "start 0 0, start 1 1, call 0 1, route 0 1";
-const MOVING: &str = "start 0 0, start 1 1, call 0 1, route 0 1, move 1 2";
-
-/// A number, a setup, and a record that then gets that number.
-type Row = (u8, &'static str, &'static str);
-
-#[rustfmt::skip]
-const ROWS: [Row; 19] = [
-    (4, ALONE, "start 16 0"),
-    (5, ALONE, "start 1 8"),
-    (6, ALONE, "call 0 0"),
-    (7, ALONE, "send 0 1 5"),
-    (8, ALONE, "start 0 1"),
-    (9, "start 0 0, end 0", "look 0"),
-    (10, "start 0 0, move 0 1", "look 0"),
-    (11, ALONE, "land 0"),
-    (12, JOINED, "call 0 1"),
-    (13, "start 0 0, start 1 1, call 0 1", "move 0 2"),
-    (14, TWO, "route 0 1"),
-    (15, TWO, "send 0 1 5"),
-    (16, MOVING, "part 0 1"),
-    (17, JOINED, "heed 0 1"),
-    (19, MOVING, "land 1"),
-    (20, "start 0 0, start 1 1, move 0 2", "drain 0 1"),
-    (21, MOVING, "drain 1 0"),
-    (22, TWO, "take 0 1"),
-    (23, "start 0 0, start 1 1, call 0 1, route 0 1, send 0 1 7, part 0 1", "end 1"),
-];
-
-/// All rows with their setups as logs, those of the limits included.
+/// A record for each row, with its setup as a log, and for the limits.
 fn rows() -> Vec<(u8, Vec<u8>, &'static str)> {
     let mut rows: Vec<_> = ROWS
         .iter()
-        .map(|&(number, setup, record)| (number, log_of(setup), record))
+        .map(|&(number, setup, records)| (number, log_of(setup), records[0]))
         .collect();
-    let full = [log_of(JOINED), log_of("send 0 1 9").repeat(1_024)];
+    let joined = log_of("start 0 0, start 1 1, call 0 1, route 0 1");
+    let full = [joined, log_of("send 0 1 9").repeat(1_024)];
     rows.push((24, full.concat(), "send 1 0 9"));
     let there_and_back = log_of("move 0 1, land 0, move 0 0, land 0");
-    let exhausted = [log_of(ALONE), there_and_back.repeat(65_534)];
+    let exhausted = [log_of("start 0 0"), there_and_back.repeat(65_534)];
     rows.push((25, exhausted.concat(), "start 1 0"));
     rows
 }
@@ -82,8 +54,10 @@ fn every_refusal_is_told() {
 
 #[test]
 fn rows_reach_every_number_that_a_whole_record_gets() {
-    let numbers: Vec<u8> = rows().iter().map(|(number, ..)| *number).collect();
-    assert_eq!(numbers, Vec::from_iter((4..=17).chain(19..=25)));
+    let mut numbers: Vec<u8> = rows().iter().map(|(number, ..)| *number).collect();
+    numbers.dedup();
+    let named = NAMED.map(|(number, _)| number);
+    assert_eq!(numbers, named.strip_suffix(&[28]).unwrap());
 }
 
 #[test]

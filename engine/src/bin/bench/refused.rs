@@ -4,13 +4,14 @@
 //! 3 end a run, and 1 is never given in one.
 
 use crate::pass::Pass;
+use engine::proposals::step_of;
 use engine::{Host, Kind, Rank, Refusal, Step};
 use std::ops::RangeInclusive;
 
 const GIVEN: RangeInclusive<Refusal> = Refusal::RankOutOfRange..=Refusal::UnreadRemain;
 
-/// Fields up to here are tried: all ranks and hosts, and some that are none.
-const FIELDS: u8 = 20;
+/// So many names are tried: all ranks and hosts, and some that are none.
+const NAMES: u8 = 20;
 
 /// A desk in mid pass: ranks 0 to 11 are joined and 1 of them moves, 12 has
 /// ended, 13 has a call open, 14 has unread messages and no line, and 15 is
@@ -41,12 +42,12 @@ fn established(seed: u64) -> Pass {
     pass
 }
 
-/// All steps but looks, with the fields that are tried.
+/// All steps but looks, with the names that are tried.
 fn tried() -> impl Iterator<Item = Step> {
     let kinds = Kind::ALL.into_iter().filter(|&kind| kind != Kind::Look);
     kinds.flat_map(|kind| {
-        (0..FIELDS).flat_map(move |first| {
-            (0..FIELDS).map(move |second| Step::from_fields(kind, first, second, 500))
+        (0..NAMES).flat_map(move |first| {
+            (0..NAMES).map(move |second| step_of(kind, [first, second], 500))
         })
     })
 }

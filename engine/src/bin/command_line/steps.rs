@@ -5,9 +5,6 @@ use engine::{Kind, Rank, Refusal, Step};
 use std::fmt;
 use std::io::{self, BufRead, BufReader, Read};
 
-/// A send has the longest record.
-const LONGEST_RECORD: usize = 7;
-
 /// A line of the printed run.
 #[derive(Debug, PartialEq)]
 pub enum Line {
@@ -106,7 +103,7 @@ impl<L: Read, P: BufRead> Lines<L, P> {
         } else {
             None
         };
-        let fits = step.is_none_or(|step| step.fields().0 as u8 == told.kind);
+        let fits = step.is_none_or(|step| step.kind() as u8 == told.kind);
         (fits && told.position + self.length_of(&told) == self.position)
             .then_some(Told { step, ..told })
     }
@@ -114,13 +111,13 @@ impl<L: Read, P: BufRead> Lines<L, P> {
     /// How many bytes the record of a line has in the log that was read.
     fn length_of(&self, told: &Told) -> u64 {
         let kind = Kind::from_byte(told.kind).filter(|_| !matches!(told.number, 2 | 3));
-        kind.map_or(0, |kind| 1 + kind.body_length() as u64)
+        kind.map_or(0, |kind| kind.record_length() as u64)
     }
 
     /// The next record of the log.
     fn read_record(&mut self) -> Option<Step> {
         let step = next_record(&mut self.log).ok()??;
-        self.position += 1 + step.fields().0.body_length() as u64;
+        self.position += step.kind().record_length() as u64;
         Some(step)
     }
 }
@@ -139,9 +136,9 @@ pub fn next_record(log: &mut impl BufRead) -> io::Result<Option<Step>> {
     let Some(&byte) = log.fill_buf()?.first() else {
         return Ok(None);
     };
-    let body = Kind::from_byte(byte).map_or(0, Kind::body_length);
-    let mut record = [0; LONGEST_RECORD];
-    let record = &mut record[..1 + body];
+    let length = Kind::from_byte(byte).map_or(1, Kind::record_length);
+    let mut record = [0; Kind::LONGEST_RECORD];
+    let record = &mut record[..length];
     log.read_exact(record)?;
     match Step::read(record) {
         Ok((step, _)) => Ok(Some(step)),

@@ -42,7 +42,7 @@ fn centre(story: &Story, layout: &Layout, rank: Rank, row: usize) -> i32 {
 /// The number of a refusal, in the margin and on the first rank's bar.
 fn draw_refusal(svg: &mut Svg, story: &Story, layout: &Layout, row: usize) {
     let told = &story.rows[row - 1];
-    let first = told.step.map(|step| Rank(step.fields().1));
+    let first = told.step.and_then(|step| step.ranks().next());
     let first = first.filter(|&rank| layout.has(rank));
     let on_bar = first.map(|rank| centre(story, layout, rank, row));
     for x in [Some(layout.margin[3]), on_bar].into_iter().flatten() {

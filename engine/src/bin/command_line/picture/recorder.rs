@@ -66,14 +66,14 @@ impl Recorder {
     }
 
     fn note_processes(&mut self, step: Step, row: usize, desk: &Desk) {
-        match (step, step_end(step, desk)) {
-            (Step::Start { r, .. }, Some(vmid)) => self.begin(r, vmid, row),
-            (Step::Move { r, .. }, Some(vmid)) => self.begin_move(r, vmid, row),
-            (Step::Land { r }, _) => {
+        match step {
+            Step::Start { r, .. } => self.begin(r, current_end(r, desk), row),
+            Step::Move { r, .. } => self.begin_move(r, current_end(r, desk), row),
+            Step::Land { r } => {
                 self.living(r, |process| process.moves != OPEN).to = row;
                 self.living(r, |process| process.runs == OPEN).runs = row;
             }
-            (Step::End { r }, _) => {
+            Step::End { r } => {
                 let process = self.living(r, |_| true);
                 (process.to, process.ended) = (row, true);
             }
@@ -112,7 +112,8 @@ impl Recorder {
     }
 }
 
-/// The current end of a step's first rank after the step.
-fn step_end(step: Step, desk: &Desk) -> Option<Vmid> {
-    desk.standing(Rank(step.fields().1)).current_end()
+/// The process that a started rank runs with or moves to.
+fn current_end(rank: Rank, desk: &Desk) -> Vmid {
+    let end = desk.standing(rank).current_end();
+    end.expect("a started rank has a process")
 }

@@ -5,7 +5,7 @@
 //! has row 0; what does not end among them has the row `OPEN`.
 
 use crate::steps::Told;
-use engine::{Kind, Place, Rank, Step, Vmid};
+use engine::{Place, Rank, Step, Vmid};
 
 /// The row of what does not come any more.
 pub const OPEN: usize = usize::MAX;
@@ -69,7 +69,7 @@ impl Story {
     /// The ranks that the steps name, ascending.
     pub fn ranks(&self) -> Vec<Rank> {
         let steps = self.rows.iter().filter_map(|told| told.step);
-        let named: Vec<Rank> = steps.flat_map(named).collect();
+        let named: Vec<Rank> = steps.flat_map(Step::ranks).collect();
         Rank::all().filter(|rank| named.contains(rank)).collect()
     }
 
@@ -103,14 +103,4 @@ impl Track {
     pub fn last_place(&self) -> Place {
         self.stays[self.stays.len() - 1].1
     }
-}
-
-/// The ranks in range that a step names.
-pub fn named(step: Step) -> Vec<Rank> {
-    let (kind, first, second, _) = step.fields();
-    let named = match kind {
-        Kind::Start | Kind::Move | Kind::Land | Kind::End | Kind::Look => vec![Rank(first)],
-        _ => vec![Rank(first), Rank(second)],
-    };
-    named.into_iter().filter(|rank| rank.in_range()).collect()
 }

@@ -80,7 +80,7 @@ impl OpenMoves {
 #[cfg(test)]
 mod tests {
     use super::{End, OpenMoves};
-    use engine::generate::{random_log, Mix};
+    use engine::proposals::{random_log, Mix};
     use engine::{Desk, Line, Step, Vmid};
 
     /// Along random runs it tells from starts, moves, landings and routes alone

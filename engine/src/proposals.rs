@@ -1,9 +1,10 @@
-//! Pseudo-random logs for tests, comparisons and measuring: steps of all kinds
-//! of paper 01, "The step log", proposed by looking at the state, so that most
-//! are accepted. The same seed and mix always give the same log.
+//! Pseudo-random steps for tests and comparisons: of all kinds of paper 01, "The
+//! step log", proposed by looking at the state, so that most are accepted. The
+//! same seed and mix always give the same log.
 
 use crate::bits::Bits;
 use crate::desk::Desk;
+use crate::field::Field;
 use crate::mail::Mail;
 use crate::names::{Host, Rank};
 use crate::record::{Kind, Step};
@@ -12,10 +13,10 @@ use crate::refusal::Refusal;
 /// How often each sort of step is proposed.
 #[derive(Clone, Copy, Debug)]
 pub struct Mix {
-    /// The weight of each kind, in the order of `Kind::ALL`. The weights of
-    /// send and take are those of a filling desk; they change places while
-    /// the desk empties.
-    pub weights: [u32; Kind::ALL.len()],
+    /// The weight of each kind, in the order of `Kind::ALL`; kinds behind the
+    /// last have none. The weights of send and take are those of a filling
+    /// desk; they change places while the desk empties.
+    pub weights: &'static [u32],
     /// One step in so many has arbitrary fields.
     pub stray_one_in: u32,
     /// No rank is ended any more once so many are.
@@ -28,7 +29,7 @@ pub struct Mix {
 impl Mix {
     /// All kinds often, with many overlapping moves.
     pub const BROAD: Mix = Mix {
-        weights: [2, 16, 24, 60, 12, 6, 5, 24, 6, 4, 1, 4],
+        weights: &[2, 16, 24, 60, 12, 6, 5, 24, 6, 4, 1, 4],
         stray_one_in: 12,
         most_ended: 5,
         hosts: Host::COUNT,
@@ -36,7 +37,7 @@ impl Mix {
 
     /// Mostly sends and takes, with moves now and then.
     pub const TRAFFIC: Mix = Mix {
-        weights: [2, 10, 15, 400, 260, 1, 6, 120, 6, 1, 0, 4],
+        weights: &[2, 10, 15, 400, 260, 1, 6, 120, 6, 1, 0, 4],
         stray_one_in: 1_000,
         most_ended: 0,
         hosts: Host::COUNT,
@@ -45,37 +46,35 @@ impl Mix {
     /// Many ranks move at once between two hosts or restart on theirs, and
     /// lines stand between them.
     pub const RESTARTS: Mix = Mix {
-        weights: [8, 30, 40, 40, 12, 20, 5, 30, 12, 2, 0, 6],
+        weights: &[8, 30, 40, 40, 12, 20, 5, 30, 12, 2, 0, 6],
         stray_one_in: 30,
         most_ended: 0,
         hosts: 2,
     };
 
     /// Whether a step names no host but those that starts and moves go to.
-    fn has_host_of(&self, step: Step) -> bool {
-        match step {
-            Step::Start { h, .. } | Step::Move { h, .. } => h.index() < self.hosts,
-            _ => true,
-        }
+    fn has_hosts_of(&self, step: Step) -> bool {
+        let mut fields = step.fields();
+        fields.all(|(field, number)| field != Field::Host || number < self.hosts as u64)
     }
 }
 
 /// A source of proposed steps.
 #[derive(Clone, Debug)]
-pub struct Generator {
+pub struct Proposer {
     mix: Mix,
     bits: Bits,
     filling: bool,
 }
 
-impl Generator {
+impl Proposer {
     /// How many kinds are tried before a stray step is proposed.
     const TRIES: u32 = 8;
 
-    /// A generator whose proposals depend on the seed, the mix and the desks
-    /// it is shown.
-    pub fn new(seed: u64, mix: Mix) -> Generator {
-        Generator {
+    /// One whose proposals depend on the seed, the mix and the desks that are
+    /// shown.
+    pub fn new(seed: u64, mix: Mix) -> Proposer {
+        Proposer {
             mix,
             bits: Bits::new(seed),
             filling: true,
@@ -113,7 +112,8 @@ impl Generator {
             Kind::Take if !self.filling => Kind::Send,
             other => other,
         };
-        self.mix.weights[weighed as usize - 1]
+        let weight = self.mix.weights.get(weighed.index());
+        weight.copied().unwrap_or(0)
     }
 
     fn weighted_kind(&mut self) -> Kind {
@@ -128,7 +128,7 @@ impl Generator {
     }
 
     /// Some step of this kind that the desk would accept, or would if it were
-    /// not just filled, sought from an arbitrary pair of fields on.
+    /// not just filled, sought from an arbitrary pair of names on.
     fn acceptable_step(&mut self, desk: &Desk, kind: Kind) -> Option<Step> {
         if kind == Kind::End && self.enough_ended(desk) {
             return None;
@@ -138,8 +138,8 @@ impl Generator {
         let value = self.bits.next_bits();
         (0..=u8::MAX)
             .map(|turn| offset.wrapping_add(turn.wrapping_mul(stride)))
-            .map(|pair| Step::from_fields(kind, pair >> 4, pair & 15, value))
-            .filter(|&step| self.mix.has_host_of(step))
+            .map(|pair| step_of(kind, [pair >> 4, pair & 15], value))
+            .filter(|&step| self.mix.has_hosts_of(step))
             .find(|&step| match desk.check(step) {
                 Ok(()) => true,
                 Err(refusal) => self.filling && refusal == Refusal::DeskFull,
@@ -151,12 +151,12 @@ impl Generator {
         ended.count() >= self.mix.most_ended
     }
 
-    /// A step of any kind with fields mostly in range; a look in place of an
+    /// A step of any kind with names mostly in range; a look in place of an
     /// end too many, lest a long log run out of ranks.
     fn stray_step(&mut self, desk: &Desk) -> Step {
         let kind = Kind::ALL[self.bits.below(Kind::ALL.len() as u32) as usize];
-        let (first, second) = (self.stray_field(), self.stray_field());
-        let step = Step::from_fields(kind, first, second, self.bits.next_bits());
+        let names = [self.stray_name(), self.stray_name()];
+        let step = step_of(kind, names, self.bits.next_bits());
         match step {
             Step::End { r } if desk.check(step).is_ok() && self.enough_ended(desk) => {
                 Step::Look { r }
@@ -165,20 +165,31 @@ impl Generator {
         }
     }
 
-    fn stray_field(&mut self) -> u8 {
+    fn stray_name(&mut self) -> u8 {
         let limit = if self.bits.below(16) == 0 { 256 } else { 16 };
         self.bits.below(limit) as u8
     }
 }
 
+/// The step of a kind that names these, its ranks and hosts in order, and has
+/// this value; what the kind has none of is left aside.
+pub fn step_of(kind: Kind, names: [u8; 2], value: u32) -> Step {
+    let mut names = names.into_iter();
+    let step = Step::from_fields(kind, |field| match field {
+        Field::Rank(_) | Field::Host => names.next().map(u64::from),
+        Field::Value => Some(value.into()),
+    });
+    step.expect("no record names more than two ranks and hosts")
+}
+
 /// A log of so many whole records, proposed along their own run.
 pub fn random_log(seed: u64, mix: Mix, records: usize) -> Vec<u8> {
-    let mut generator = Generator::new(seed, mix);
+    let mut proposer = Proposer::new(seed, mix);
     let mut desk = Desk::fresh();
     let mut log = Vec::new();
     for _ in 0..records {
         let position = log.len() as u64;
-        generator.propose(&desk).write(&mut log);
+        proposer.propose(&desk).write(&mut log);
         desk.step_sound(&log, position);
     }
     log
