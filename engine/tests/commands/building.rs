@@ -170,7 +170,7 @@ fn a_change_elsewhere_builds_nothing() {
 const FAILURE: &str = "\
 rt: base proved (unchanged since it was last proved)
 fn lines::put: proved
-crates/lines/src/lib.rt:1: error
+crates/print_lines/src/lib.rt:1: error
 rt: lines NOT PROVED (exit 1, 2 s)
 fn page::put: proved
 library base: modules loaded=1 checked=0
@@ -182,7 +182,7 @@ rt: FAILED: lines replay
 const SHOWN: &str = "\
 building the program, some minutes where all is new; proved: page
 the program cannot be built:
-crates/lines/src/lib.rt:1: error
+crates/print_lines/src/lib.rt:1: error
 rt: lines NOT PROVED (exit 1, 2 s)
 rt: replay NOT PROVED: its dependency lines is not proved
 rt: FAILED: lines replay

@@ -1,5 +1,5 @@
 //! What the files of the tree cite of each other. A name is written with its
-//! file: `broker.specs.Laws.Step.step-refused`.
+//! file: `protocol.specs.Laws.Step.step-refused`.
 
 use crate::code::ghost_part;
 use crate::imports::{imports, words_outside};
@@ -13,9 +13,9 @@ pub fn whole_name(path: &str, name: &str) -> String {
     format!("{}.{name}", file.replace('/', "."))
 }
 
-/// A path of an import without its package: `Rattle.broker.specs.Step`,
-/// as the crate itself says, and `Rattle.broker.specs.Step`, as others say, are
-/// both `broker.specs.Step`.
+/// A path of an import without its package: `Rattle.protocol.specs.Step`,
+/// as the crate itself says, and `Rattle.protocol.specs.Step`, as others say, are
+/// both `protocol.specs.Step`.
 fn without_package(path: &str) -> Option<String> {
     let (package, rest) = path.strip_prefix("Rattle·")?.split_once('.')?;
     let name = package.split('·').next()?;

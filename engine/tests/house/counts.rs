@@ -5,8 +5,9 @@
 use crate::code::{plain_part, plain_words};
 use crate::tree::{sources, Source};
 
-/// The lower part, and what it calls the type of a count.
-const LOWER: &str = "crates/transit/";
+/// What the crates of the lower part begin with, and what they call the type
+/// of a count.
+const LOWER: &str = "crates/transit";
 const COUNT: &str = "Count";
 
 /// What of a lower part hands out a count: functions with such a result, and
@@ -82,7 +83,7 @@ fn a_count_is_widened_at_one_place() {
         .iter()
         .flat_map(|source| widened(source, &counting))
         .collect();
-    assert_eq!(found, ["crates/broker/src/answer.rt: 'n'"]);
+    assert_eq!(found, ["crates/answer/src/lib.rt: 'n'"]);
 }
 
 #[test]

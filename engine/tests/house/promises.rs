@@ -32,7 +32,7 @@ fn public_laws(tree: &[Source]) -> Vec<Public> {
 fn has_laws(path: &str) -> bool {
     let parts: Vec<&str> = path.split('/').collect();
     match parts[..] {
-        ["crates", "worked", ..] | ["crates", _, "specs", "Worked", ..] => false,
+        ["crates", "test_worked", ..] | ["crates", _, "specs", "Worked", ..] => false,
         ["crates", _, "specs", .., file] => file.ends_with(".antt"),
         _ => false,
     }
@@ -163,7 +163,7 @@ mod tests {
         }
         for path in [
             "crates/a/specs/Worked/B.antt",
-            "crates/worked/specs/B.antt",
+            "crates/test_worked/specs/B.antt",
             "crates/a/proofs/f/Proof.antt",
             "crates/a/src/lib.rt",
         ] {

@@ -38,7 +38,7 @@ impl Tree {
             .collect()
     }
 
-    /// The crates that some parts begin with: of "life, connect and migrate", three.
+    /// The crates that some parts begin with: of "kind_send, kind_take and kind_look", three.
     fn crates_of<'a>(&self, parts: &[Part<'a>]) -> Vec<&'a str> {
         let mut found = Vec::new();
         for part in parts {

@@ -98,8 +98,8 @@ mod tests {
     fn files_are_found_by_their_endings() {
         let found = sources(&[".rt", ".antt"]);
         let has = |path: &str| found.iter().any(|source| source.path == path);
-        assert!(has("crates/steps/src/lib.rt") && has("crates/broker/specs/Step.antt"));
-        assert!(!has("crates/panel/stdout"));
+        assert!(has("crates/steps/src/lib.rt") && has("crates/protocol/specs/Step.antt"));
+        assert!(!has("crates/example_panel/stdout"));
     }
 
     #[test]

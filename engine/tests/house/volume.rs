@@ -52,15 +52,15 @@ fn proof_lines_for_a_code_line() {
 #[test]
 fn proof_is_told_from_definitions() {
     for path in [
-        "crates/broker/specs/Laws/Kept/Names.antt",
-        "crates/broker/specs/Laws.antt",
+        "crates/protocol/specs/Laws/Kept/Names.antt",
+        "crates/protocol/specs/Laws.antt",
         "crates/steps/proofs/step/Proof.antt",
         "crates/ordering/specs/Laws/First.antt",
     ] {
         assert!(is_proof(path), "{path}");
     }
     for path in [
-        "crates/broker/specs/Step.antt",
+        "crates/protocol/specs/Step.antt",
         "crates/ordering/specs/Claim.antt",
         "crates/ordering/specs/Worked/Listing.antt",
     ] {

@@ -32,7 +32,7 @@ impl Listed {
 
 /// All states, in order. A line before the first section belongs to none.
 pub fn states() -> Vec<Listed> {
-    let text = std::fs::read_to_string(format!("{ROOT}/crates/spoiled/stdin")).unwrap();
+    let text = std::fs::read_to_string(format!("{ROOT}/crates/test_spoiled/stdin")).unwrap();
     let sections = text.find("\n## ").expect("no section");
     let mut states = Vec::new();
     let mut next = Listed::default();

@@ -1,6 +1,6 @@
-//! The list of sound and unsound states, `crates/spoiled/stdin`: the second
-//! engine answers every state of it, and the theorems of `crates/worked` and
-//! the expected output of the program `spoiled` are written from it.
+//! The list of sound and unsound states, `crates/test_spoiled/stdin`: the second
+//! engine answers every state of it, and the theorems of `crates/test_worked` and
+//! the expected output of the program `test_spoiled` are written from it.
 
 mod built;
 mod list;
@@ -88,7 +88,7 @@ fn what_is_written_from_the_list_is_current() {
         .map(|listed| format!("{} {}\n", listed.name, listed.verdict()))
         .collect();
     let mut files = theorems::files(&states);
-    files.push(("crates/spoiled/stdout".to_string(), printed));
+    files.push(("crates/test_spoiled/stdout".to_string(), printed));
     for (file, text) in files {
         let path = format!("{ROOT}/{file}");
         if std::env::var_os("WRITE_STATES").is_some() {

@@ -1,4 +1,4 @@
-//! The theorems of `crates/worked`: for each section of the list a file, and in
+//! The theorems of `crates/test_worked`: for each section of the list a file, and in
 //! it for each state a definition and a theorem, computed from the definition
 //! of soundness. An unsound state is computed in the clauses of its section.
 
@@ -18,7 +18,7 @@ pub fn files(states: &[Listed]) -> Vec<(String, String)> {
     let first = &states[0];
     let sections = states.chunk_by(|one, next| one.section == next.section);
     let file = |group: &[Listed]| {
-        let path = format!("crates/worked/specs/{}.antt", group[0].section);
+        let path = format!("crates/test_worked/specs/{}.antt", group[0].section);
         (path, theorems(group, first))
     };
     sections.map(file).collect()
@@ -27,7 +27,7 @@ pub fn files(states: &[Listed]) -> Vec<(String, String)> {
 fn theorems(group: &[Listed], first: &Listed) -> String {
     let section = &group[0].section;
     let mut text = format!(
-        "-- The states of crates/spoiled/stdin, section {section}, and of each the theorem that it is sound or unsound.\n\
+        "-- The states of crates/test_spoiled/stdin, section {section}, and of each the theorem that it is sound or unsound.\n\
          -- Written from that list by the Rust tests. Assumes nothing.\n"
     );
     for import in imports(group, first) {
@@ -55,8 +55,8 @@ fn imports(group: &[Listed], first: &Listed) -> Vec<String> {
         "mathlib.Core.Path.{_≡_, refl}".to_string(),
         format!("mathlib.Core.Bool.{{{}}}", values.join(", ")),
         "mathlib.Core.List.{[], _∷_}".to_string(),
-        format!("Rattle.broker.specs.Laws.Opened.{{{}}}", opened.join(", ")),
-        "Rattle.broker.specs.Sound.{sound}".to_string(),
+        format!("Rattle.protocol.specs.Laws.Opened.{{{}}}", opened.join(", ")),
+        "Rattle.protocol.specs.Sound.{sound}".to_string(),
     ];
     if starts {
         imports.push("Rattle.broker.specs.State as Desk".to_string());
@@ -65,12 +65,12 @@ fn imports(group: &[Listed], first: &Listed) -> Vec<String> {
     if unsound {
         let law = section.to_lowercase();
         imports.push(format!(
-            "Rattle.worked.specs.Unsound.{{{law}-unsound}}"
+            "Rattle.test_worked.specs.Unsound.{{{law}-unsound}}"
         ));
     }
     if !starts {
         let (section, name) = (&first.section, &first.name);
-        imports.push(format!("Rattle.worked.specs.{section}.{{{name}}}"));
+        imports.push(format!("Rattle.test_worked.specs.{section}.{{{name}}}"));
     }
     let used = |word: &&&str| {
         let uses = |change: &String| change.split(' ').next() == Some(word);
@@ -78,7 +78,7 @@ fn imports(group: &[Listed], first: &Listed) -> Vec<String> {
     };
     let words = WORDS.iter().filter(used).copied();
     let words: Vec<&str> = ["changed"].into_iter().chain(words).collect();
-    imports.push(named("Rattle.worked.specs.Words", &words));
+    imports.push(named("Rattle.test_worked.specs.Words", &words));
     imports
 }
 

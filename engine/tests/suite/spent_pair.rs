@@ -126,7 +126,7 @@ fn a_full_desk_gets_24_before_28() {
     assert_eq!(number_in(&state, "send 0 1 1"), 28);
 }
 
-/// What the program of `crates/spent` prints: the number and the values of each
+/// What the program of `crates/test_spent` prints: the number and the values of each
 /// step, and the count sent. It sets the count after four steps.
 #[test]
 fn the_program_spent_is_answered_alike() {
@@ -144,6 +144,6 @@ fn the_program_spent_is_answered_alike() {
         printed += &format!("{} {v1} {v2} {v3}\n", number_of(&answer));
     }
     printed += &format!("{} sent\n", desk.mail().sent(Rank(0), Rank(1)));
-    let stored = concat!(env!("CARGO_MANIFEST_DIR"), "/../crates/spent/stdout");
+    let stored = concat!(env!("CARGO_MANIFEST_DIR"), "/../crates/test_spent/stdout");
     assert_eq!(printed, std::fs::read_to_string(stored).unwrap());
 }

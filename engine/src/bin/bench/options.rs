@@ -60,7 +60,7 @@ impl Options {
     pub fn programs(&self) -> Result<Programs, String> {
         let replay = proved_program(&self.replay, "replay")?;
         let made_up = proved_program(&self.made_up, "made_up")?;
-        let timing = proved_program(&self.timing, "timing")?;
+        let timing = proved_program(&self.timing, "test_timing")?;
         Ok(Programs {
             replay: Counterparts {
                 proved: replay,
