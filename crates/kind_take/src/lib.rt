@@ -22,7 +22,6 @@ use transit::Count;
 use transit::Rank;
 use transit::Slots;
 use transit::Value;
-use transit_count::unread;
 use transit_count::unread_between;
 use transit_remove::remove;
 use verdict::Verdict;

@@ -3,7 +3,6 @@
 use mathlib.Core.Bool.{Bool, not, cond, _&&_, _||_}
 use mathlib.Core.List.{List, [], _∷_}
 use mathlib.Core.Option.{Option, none, some}
-use Prim.Native.Nat.{ℕ}
 use lib.Dec.{eqb, leb, ltb}
 use Rattle.base.specs.Lists.{every, tally, anyOf}
 use Rattle.transit.specs.Message.{sameRank, between, to, at, isRank}

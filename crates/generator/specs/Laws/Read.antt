@@ -115,7 +115,8 @@ module _ (front : List ℕ) (word : ℕ) (rest : List ℕ) where
 
   record-in-range : InRange (recordOf kind (body (fieldsOf kind) (draw word)))
   record-in-range =
-      each-at (λ k. InRange (recordOf k (body (fieldsOf k) (draw word)))) 1 kinds (drawn-in-range (draw word)) kind (omega arith) (omega arith)
+      each-at (λ k. InRange (recordOf k (body (fieldsOf k) (draw word)))) 1 kinds (drawn-in-range (draw word)) kind (omega arith)
+      (omega arith)
 
 -- Behind any bytes, a made-up log is the records that were asked for, and then its end.
 made-behind : (n word : ℕ) (front : List ℕ) → Holds (front ++ madeLog n word) n (length front)

@@ -22,7 +22,8 @@ module _ (a b : Rank) (known : State) {slots contents slots' : List ℕ} where
       a .0 < ranks → b .0 < ranks →
       0 < tally (between a b) (messagesIn slots contents) →
       sound (withUnread (unreadIn slots contents) known) ≡ true →
-      done (withUnread (unreadIn slots' contents) known) (m .value) rest (m .sequence) ≡ take b a (withUnread (unreadIn slots contents) known)
+      done (withUnread (unreadIn slots' contents) known) (m .value) rest (m .sequence) ≡
+      take b a (withUnread (unreadIn slots contents) known)
   unfolding take
   take-done x in-a in-b some ok =
       let s = withUnread (unreadIn slots contents) known in

@@ -22,7 +22,21 @@ use Rattle.broker.specs.declared.process.Status.{Status}
 use Rattle.record.specs.declared.Record.{Record}
 use Rattle.record.specs.declared.Record.the-variants.{Start, Call, Route, Send, Take, Move, Heed, Drain, Land, Part, End, Look}
 use Rattle.ordering.specs.Worked.Account.{Account, account}
-use Rattle.ordering.specs.Claim.{Reading, Entry, SecondList, areBytes, after, accepted, everyAccepted, records, fiveKinds, unbroken, sent, taken, unread}
+use Rattle.ordering.specs.Claim.{
+  Reading,
+  Entry,
+  SecondList,
+  areBytes,
+  after,
+  accepted,
+  everyAccepted,
+  records,
+  fiveKinds,
+  unbroken,
+  sent,
+  taken,
+  unread,
+}
 
 -- what a list comes to: its accepted steps, and the processes and the unread messages in the state that it leaves
 pub record Result : Type 0 where

@@ -1,4 +1,5 @@
--- `print_lines::record_line` meets its contract: four puts in a row, whose texts are the parts of the line; or a refusal's line. Assumes nothing.
+-- `print_lines::record_line` meets its contract: four puts in a row, whose texts are the parts of the line; or a refusal's line.
+-- Assumes nothing.
 use mathlib.Core.Path.{ap, sym}
 use borrow.Author.Needs.{needs}
 use Rattle.answer.specs.Answer.{number, values}

@@ -1,5 +1,5 @@
--- `print_page::put_decimal` meets its contract. The loop's invariant: the digits of what is left, put in front of the page as it is, make the
--- page that all digits make; they end where the page is written next. Assumes nothing.
+-- `print_page::put_decimal` meets its contract. The loop's invariant: the digits of what is left, put in front of the page as it is, make
+-- the page that all digits make; they end where the page is written next. Assumes nothing.
 use mathlib.Core.Path.{_≡_, refl, _∙_}
 use Prim.Native.Nat.{_+_, _≤_}
 use native.Mathlib.Omega.{arith}

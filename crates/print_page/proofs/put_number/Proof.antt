@@ -1,4 +1,5 @@
--- `print_page::put_number` meets its contract: two puts in a row, of which the second is one byte where there is one digit. Assumes nothing.
+-- `print_page::put_number` meets its contract: two puts in a row, of which the second is one byte where there is one digit. Assumes
+-- nothing.
 use native.Mathlib.Omega.{arith}
 use borrow.Author.Needs.{needs}
 use Rattle.print_page.specs.Laws.Put.{_then_, at-most}

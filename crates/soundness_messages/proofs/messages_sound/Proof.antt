@@ -17,7 +17,17 @@ use Rattle.transit.specs.Unread.{unreadOf}
 use Rattle.transit.specs.declared.Message.{Message}
 use Rattle.protocol.specs.Laws.Sound.{isNamed}
 use Rattle.soundness_messages.specs.Laws.Messages.{named-inside}
-use Rattle.soundness_messages.specs.Laws.Pass.{MessagesPass, begins, ends, isNext, unfit-decides, fall-decides, number-decides, passed-again, passed-next}
+use Rattle.soundness_messages.specs.Laws.Pass.{
+  MessagesPass,
+  begins,
+  ends,
+  isNext,
+  unfit-decides,
+  fall-decides,
+  number-decides,
+  passed-again,
+  passed-next,
+}
 use Rattle.soundness_messages.specs.Messages.{messagesSound}
 use Rattle.transit.proofs.Slots.{blank}
 use Rattle.soundness_messages.proofs.Held.{held-count}

@@ -74,7 +74,8 @@ module _ {ps : List Process} {ls : List Link} {u : Unread} {last numbers : List 
   passed-again named next mark = record { places = pass-again (p .places) named mark; numbered = number-passes named next }
 
   -- Any other that fits is passed.
-  pub passed-next : isNamed m ≡ true → isNext u numbers m ≡ true → messageSoundAt ps ls m ≡ true → getD last (pairOf m) 0 ≤ markOf placeIndex m
+  pub passed-next : isNamed m ≡ true → isNext u numbers m ≡ true → messageSoundAt ps ls m ≡ true
+      → getD last (pairOf m) 0 ≤ markOf placeIndex m
       → MessagesPass ps ls u (set last (pairOf m) (markOf placeIndex m)) (set numbers (pairOf m) (m .sequence)) rest
   passed-next named next fits above =
       record {

@@ -1,5 +1,5 @@
--- `steps_lent::step_lent` meets its contract: a walk of its MIR, by hand (`Walk.antt`). All that the proof knows of `step`, which it calls, is
--- that it meets its contract. Assumes nothing.
+-- `steps_lent::step_lent` meets its contract: a walk of its MIR, by hand (`Walk.antt`). All that the proof knows of `step`, which it calls,
+-- is that it meets its contract. Assumes nothing.
 mod Walk
 use mathlib.Core.Path.{_≡_, refl, sym, ap, subst}
 use mathlib.Core.List.{[], _∷_, List}

@@ -12,7 +12,17 @@ use Rattle.transit.specs.Mail.{messagesIn, Mail, Left}
 use Rattle.transit.specs.Message.{between, ranks, cells, pairOf}
 use Rattle.transit.specs.Slots.{messageOf}
 use Rattle.transit.specs.declared.Rank.{Rank}
-use Rattle.transit.specs.Laws.Columns.{column-sizes, store-pair, store-first, store-count, store-unread, first-at, next-at, count-at, unread-is}
+use Rattle.transit.specs.Laws.Columns.{
+  column-sizes,
+  store-pair,
+  store-first,
+  store-count,
+  store-unread,
+  first-at,
+  next-at,
+  count-at,
+  unread-is,
+}
 use Rattle.transit.specs.Laws.Earliest.{Earliest, earliest-live, earliest-found, earliest-without}
 use Rattle.transit.specs.Laws.Links.{first-some}
 use Rattle.base.specs.Laws.Lists.{tally-bounded, length-without, tally-without}

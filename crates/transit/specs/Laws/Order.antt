@@ -26,13 +26,15 @@ place-below-four Channel = omega arith
 -- Messages whose places never fall are in place order already.
 byPlace-sorted : (l : List Message) → neverFalls (map placeIndex l) ≡ true → byPlace l ≡ l
 byPlace-sorted [] sorted = refl
-byPlace-sorted (m ∷ l) sorted = at-place (m .place) refl (byPlace-sorted l (both-right (every (leb (placeIndex m)) (map placeIndex l)) _ sorted))
+byPlace-sorted (m ∷ l) sorted =
+    at-place (m .place) refl (byPlace-sorted l (both-right (every (leb (placeIndex m)) (map placeIndex l)) _ sorted))
   where
     -- None of the others is at a place before that of the first.
     none : (q p : Place) → m .place ≡ p → placeNumber q < placeNumber p → select (at q) l ≡ []
     none q p is before =
         select-none (at q) l (every-wider (λ x. leb (placeIndex m) (placeIndex x)) (λ x. not (at q x))
-        (λ x h. rw (ne-eqb (placeIndex x) (placeNumber q) (λ e. omega (arith, e, ap placeNumber is, leb-true (placeIndex m) (placeIndex x) h)))) l
+        (λ x h.
+        rw (ne-eqb (placeIndex x) (placeNumber q) (λ e. omega (arith, e, ap placeNumber is, leb-true (placeIndex m) (placeIndex x) h)))) l
         (rw every-map at (both-left (every (leb (placeIndex m)) (map placeIndex l)) _ sorted)))
 
     at-place : (p : Place) → m .place ≡ p → byPlace l ≡ l → byPlace (m ∷ l) ≡ m ∷ l

@@ -21,14 +21,17 @@ put-requires c κs =
     let start = roomed .before .before .before in
     let roomy = roomed .make-room .ensures in
     let one = counted .count-one .ensures in
-    let same = ap length (counted-same roomy one) in
-    (counted-kept roomy one, (roomy .room, (omega (arith, same, start .pre .1 .0), rw (made .new .ensures) (start .pre .1 .1 .0, start .pre .1 .1 .1 .0))))
+    let same = ap length (counted-same roomy one) in (
+      counted-kept roomy one,
+      (roomy .room, (omega (arith, same, start .pre .1 .0), rw (made .new .ensures) (start .pre .1 .1 .0, start .pre .1 .1 .1 .0))),
+    )
 
 returns : tie.Need-returns
 returns c =
     let made = c .before .before .before in
     let counted = made .before in
-    numbered-put (counted .before .before .make-room .ensures) (counted .count-one .ensures) (rw (made .new .ensures) at (c .put .ensures .0))
+    let roomy = counted .before .before .make-room .ensures in
+    numbered-put roomy (counted .count-one .ensures) (rw (made .new .ensures) at (c .put .ensures .0))
 
 pub append-spec : {M : Type 1} → statement M
 append-spec =

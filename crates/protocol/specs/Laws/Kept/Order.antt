@@ -144,4 +144,5 @@ module _ (u : Unread) (o : InOrder u) where
           rw (sender-of c d x is-x, receiver-of c d x is-x, ← sender-of c d y is-y, ← receiver-of c d y is-y)
           (both-left (between a b y) _ on) in
           let elsewhere : eqb (placeIndex x) 1 ≡ false = rw mine at off in
-          omega (arith, eqb-false (placeIndex x) 1 elsewhere, eqb-true (placeIndex y) 1 (both-right (between a b y) (at SourceChannel y) on))
+          let there = eqb-true (placeIndex y) 1 (both-right (between a b y) (at SourceChannel y) on) in
+          omega (arith, eqb-false (placeIndex x) 1 elsewhere, there)

@@ -36,7 +36,17 @@ use Rattle.protocol.specs.Connect.{call, route, part, onChannel}
 use Rattle.protocol.specs.Laws.Accepted
 use Rattle.protocol.specs.Laws.Changes.{shift}
 use Rattle.protocol.specs.Laws.Effect.{Effect, pairs-stay, placedAnew, Unbarred, messages-stay, order-stays}
-use Rattle.protocol.specs.Laws.Fit.{at-place, guarded, tested-seen, tested-pair, stands, pair-fits, pairs-from-fits, messages-fit, fits}
+use Rattle.protocol.specs.Laws.Fit.{
+  at-place,
+  guarded,
+  tested-seen,
+  tested-pair,
+  stands,
+  pair-fits,
+  pairs-from-fits,
+  messages-fit,
+  fits,
+}
 use Rattle.protocol.specs.Laws.Kept.Effects
 use Rattle.protocol.specs.Laws.Kept.Order.{InOrder, append-keeps, without-keeps, first-keeps}
 use Rattle.protocol.specs.Laws.Links.{sender-of, receiver-of}

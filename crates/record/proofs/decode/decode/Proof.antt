@@ -29,6 +29,11 @@ returns-3 c =
     let args = inside .before .before .args in
     rw (cut-short (args .log .now) (args .at) (inside .if1 .left) (known tested) (omega (arith, c .before .body-length .ensures)))
 
+record-of-requires : tie.Need-record-of-requires
+record-of-requires c κs =
+    let tested = c .before .before .before in
+    known tested
+
 returns-4 : tie.Need-returns-4
 returns-4 c =
     let long = c .before .before .before .body-length in
@@ -44,4 +49,4 @@ pub decode-spec : {M : Type 1} → statement M
 decode-spec =
     tie.close (tie.spec (λ c. rw (at-end _ _ (c .if1 .taken))) (λ c. search needs) (λ c κs. search needs) returns-2 (λ c. search needs)
     (λ c κs. known c) (λ c. search needs) returns-3 (λ c. search needs) (λ c. search needs) (λ c. search needs) (λ c. search needs)
-    (λ c κs. known (c .before .before .before)) returns-4)
+    record-of-requires returns-4)

@@ -24,11 +24,15 @@ unfolding recordOf
 returns-12 c =
     let start = c .before .before .before .before in
     let kind = start .args .kind in
-    let rest = c .match .rest in
-    let third = past 3 (past 2 (past 1 (kind-least kind (start .pre)) (rest .0 .0 .0 .0 .0 .0 .0 .0 .0 .0 .1)) (rest .0 .0 .0 .0 .0 .0 .0 .0 .0 .1)) (rest .0 .0 .0 .0 .0 .0 .0 .0 .1) in
-    let sixth = past 6 (past 5 (past 4 third (rest .0 .0 .0 .0 .0 .0 .0 .1)) (rest .0 .0 .0 .0 .0 .0 .1)) (rest .0 .0 .0 .0 .0 .1) in
-    let ninth = past 9 (past 8 (past 7 sixth (rest .0 .0 .0 .0 .1)) (rest .0 .0 .0 .1)) (rest .0 .0 .1) in
-    let last : kind ≡ 12 = omega (arith, past 11 (past 10 ninth (rest .0 .1)) (rest .1), kind-most kind (start .pre)) in
+    let known = start .pre in
+    let later = c .match .rest in
+    let sixth = later .0 .0 .0 .0 .0 in
+    let first = sixth .0 .0 .0 .0 in
+    let third = past 3 (past 2 (past 1 (kind-least kind known) (first .0 .1)) (first .1)) (sixth .0 .0 .0 .1) in
+    let fifth = past 5 (past 4 third (sixth .0 .0 .1)) (sixth .0 .1) in
+    let seventh = past 7 (past 6 fifth (sixth .1)) (later .0 .0 .0 .0 .1) in
+    let ninth = past 9 (past 8 seventh (later .0 .0 .0 .1)) (later .0 .0 .1) in
+    let last : kind ≡ 12 = omega (arith, past 11 (past 10 ninth (later .0 .1)) (later .1), kind-most kind known) in
     rw (last, c .before .byte-at2 .ensures)
 
 pub record-of-spec : {M : Type 1} → statement M
