@@ -1,4 +1,4 @@
-// The message broker: its state, and what a step of its log does. Paper 01 calls it the desk.
+// The state of the message broker, by value, and its parts. Paper 01 calls the broker the desk.
 pub mod link;
 pub mod process;
 pub mod state;

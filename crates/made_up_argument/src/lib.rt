@@ -1,4 +1,4 @@
-// An argument of the program: a number in decimal.
+// An argument of the program that writes a made-up pass: a number in decimal.
 ghost use mathlib.Core.Bool.{true};
 ghost use mathlib.Core.Path.{_≡_};
 ghost use Prim.Native.Nat.{_-_, _≤_};

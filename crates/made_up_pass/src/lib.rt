@@ -1,4 +1,4 @@
-// The pass, written piece by piece through one buffer. Paper 02, change 1.
+// A made-up pass, written piece by piece through one buffer. Paper 02, change 1.
 ghost use mathlib.Core.Path.{_≡_};
 ghost use Prim.Native.Nat.{_≤_};
 ghost use lib.ListN.{length};

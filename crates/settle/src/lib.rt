@@ -23,6 +23,9 @@ pub fn settle(
     let verdict = judge(read, slots, contents, roster);
     match verdict {
         Verdict::Failed(n) => Answer::Refused(n),
-        Verdict::Passed => { Answer::Accepted(apply(read, slots, contents, roster)) }
+        Verdict::Passed => {
+            let values = apply(read, slots, contents, roster);
+            Answer::Accepted(values)
+        }
     }
 }

@@ -1,5 +1,6 @@
 // The test of soundness: one pass over the ranks, one over the pairs of ranks, one over the messages. Paper 01, "Sound states".
-// Tests of small values are joined by `&` and `|`, which evaluate both sides: that costs less than a jump.
+// The parts have crates of their own. There, tests of small values are joined by `&` and `|`, which evaluate both sides: that costs less
+// than a jump.
 ghost use mathlib.Core.Path.{_≡_};
 ghost use Rattle.protocol.specs.Sound.{sound};
 ghost use Rattle.broker.specs.State.{view};

@@ -1,1 +1,1 @@
-// States that are sound and states that are not, each with its theorem: `specs/States`. There is no code here.
+// States that are sound and states that are not, each with its theorem, in `specs`. There is no code here.

@@ -1,5 +1,6 @@
 // The unread messages of a broker: one list in order of sending, each message with its place and its running number.
-// Paper 01: "The places of messages are kept by a lower part that knows no step kinds." This crate is that part.
+// Paper 01: "The places of messages are kept by a lower part that knows no step kinds." This crate has its
+// types, definitions and laws, and the crates named after it its routines.
 ghost use mathlib.Core.Path.{_≡_};
 ghost use Rattle.transit.specs.Message.{message, placeNumber};
 ghost use Rattle.transit.specs.Unread.{unreadOf, nothing};
