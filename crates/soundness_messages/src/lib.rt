@@ -2,50 +2,15 @@
 // states"; paper 02, change 4.
 ghost use mathlib.Core.Path.{_≡_};
 ghost use Rattle.transit.specs.Unread.{unreadOf};
-ghost use Rattle.protocol.specs.Laws.Sound.{isNamed};
-ghost use Rattle.soundness_messages.specs.Messages.{placeFits, messageFits, messagesSound};
+ghost use Rattle.soundness_messages.specs.Messages.{messagesSound};
 use broker::link::Link;
 use broker::process::Process;
-use broker::process::Status;
-use broker::state::Broker;
+use soundness_places::is_named;
+use soundness_places::message_fits;
 use transit::CELLS;
-use transit::Message;
-use transit::Place;
 use transit::RANKS;
 use transit::Sequence;
 use transit::Transit;
-
-// The message is from a rank to another rank.
-fn is_named(m: Message) -> bool
-    ensures { λ r. ⌜ r ≡ isNamed m ⌝ }
-{
-    let from = m.sender.0;
-    let to = m.receiver.0;
-    (from < Broker::RANKS) & (to < Broker::RANKS) & !(from == to)
-}
-
-// A place by the receiver's status and its link to the sender, `back`.
-fn place_fits(place: Place, receiver: Status, back: Link) -> bool
-    ensures { λ r. ⌜ r ≡ placeFits place receiver back ⌝ }
-{
-    let connection = back.connection;
-    let backlog = back.backlog;
-    let number = place.number();
-    let heeded = !backlog.is_unheeded() | (number == 0) | (number == 1);
-    let migrating = !((number == 0) | (number == 1)) | receiver.is_migrating();
-    let awaited = !(number == 1) | !backlog.is_clear();
-    let connected = !(number == 3) | !connection.is_closed();
-    heeded & (migrating & awaited & connected)
-}
-
-fn message_fits(m: Message, sender: Process, receiver: Process, back: Link) -> bool
-    ensures { λ r. ⌜ r ≡ messageFits m sender receiver back ⌝ }
-{
-    let place = m.place;
-    let from = sender.status;
-    let to = receiver.status;
-    from.is_started() & to.is_live() & place_fits(place, to, back)
-}
 
 // Every message, up to the first that fails, or whose running number is not above that of the last of its pair or is above the count sent,
 // or that is at a lower place than that last one. At the place of that last one a message is not tested again: whether it fits depends on

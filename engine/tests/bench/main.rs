@@ -230,7 +230,7 @@ fn a_program_that_is_not_there_is_told() {
     for (option, name) in [
         ("--replay", "replay"),
         ("--made-up", "made_up"),
-        ("--timing", "timing"),
+        ("--timing", "test_timing"),
     ] {
         let output = bench("bench-none", &[(option, "none")]);
         assert_eq!(output.status.code(), Some(1));

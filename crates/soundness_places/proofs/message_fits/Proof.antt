@@ -1,8 +1,8 @@
--- `soundness_messages::message_fits` meets its contract, by those of its tests.
+-- `soundness_places::message_fits` meets its contract, by those of its tests.
 -- Assumes nothing.
 use borrow.Author.Needs.{needs}
-use Rattle.soundness_messages.proofs.message_fits.Statement.{statement}
-use Rattle.soundness_messages.proofs.message_fits.Tie as tie
+use Rattle.soundness_places.proofs.message_fits.Statement.{statement}
+use Rattle.soundness_places.proofs.message_fits.Tie as tie
 
 pub message-fits-spec : {M : Type 1} → statement M
 message-fits-spec =

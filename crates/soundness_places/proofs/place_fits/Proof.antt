@@ -1,8 +1,8 @@
--- `soundness_messages::place_fits` meets its contract, by those of its tests.
+-- `soundness_places::place_fits` meets its contract, by those of its tests.
 -- Assumes nothing.
 use borrow.Author.Needs.{needs}
-use Rattle.soundness_messages.proofs.place_fits.Statement.{statement}
-use Rattle.soundness_messages.proofs.place_fits.Tie as tie
+use Rattle.soundness_places.proofs.place_fits.Statement.{statement}
+use Rattle.soundness_places.proofs.place_fits.Tie as tie
 
 pub place-fits-spec : {M : Type 1} → statement M
 place-fits-spec =
