@@ -1,4 +1,4 @@
--- The states of crates/spoiled/stdin, section Messages, and of each the theorem that it is sound or unsound.
+-- The states of crates/test_spoiled/stdin, section Messages, and of each the theorem that it is sound or unsound.
 -- Written from that list by the Rust tests. Assumes nothing.
 use mathlib.Core.Path.{_≡_, refl}
 use mathlib.Core.Bool.{true, false}
