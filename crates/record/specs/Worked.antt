@@ -1,2 +1,3 @@
 -- Worked examples of the definitions, each computed.
+pub mod Parts
 pub mod Records
