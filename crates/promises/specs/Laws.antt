@@ -1,0 +1,4 @@
+-- Laws of the page of promises.
+pub mod Entries
+pub mod Rows
+pub mod Shown

@@ -1,0 +1,414 @@
+-- The page of promises: all that is promised of the desk, in full, to be read from top to bottom. Each statement stands under the sentence
+-- of paper 01 or 02 that it is for, with all that it speaks of in sight; its proof cites what is proved below. What the entries that users
+-- call promise stands in src/lib.rt in the same way. Assumes nothing.
+use mathlib.Core.Bool.{true, false, not, _&&_}
+use mathlib.Core.List.{List, [], _∷_, _++_, map}
+use mathlib.Core.Logic.{_⊎_}
+use mathlib.Core.Option.{none, some}
+use mathlib.Core.Path.{_≡_, refl}
+use Prim.Native.String.{String}
+use Prim.Native.Nat.{ℕ, _+_, _*_, _/_, _%_, _^_, _<_, _≤_}
+use lib.Dec.{leb}
+use lib.ListN as ListN
+use lib.ListN.{length, getD, drop}
+use Rattle.answer.specs.Answer.{refusalNumber, number, values, NeverEighteen}
+use Rattle.answer.specs.declared.Answer.the-variants.{Accepted, Refused}
+use Rattle.answer.specs.declared.Refusal.{Refusal}
+use Rattle.answer.specs.declared.Refusal.the-variants.{Unsound, UnknownKind, CutShort}
+use Rattle.base.specs.Lists.{every, select, upFrom}
+use Rattle.broker.specs.Names
+use Rattle.broker.specs.State.{State, fresh, status, request, drawnOn, messages}
+use Rattle.desk.specs.Look.{nameFor}
+use Rattle.generator_draw.specs.Draw.{words}
+use Rattle.generator_record.specs.MadeUp as MadeUp
+use Rattle.ordering.specs.Claim.{
+  Reading,
+  Entry,
+  after,
+  everyAccepted,
+  accepted,
+  records,
+  isTake,
+  sent,
+  taken,
+  unread,
+  noMoveOpen,
+  fiveKinds,
+  unbroken,
+  areBytes,
+}
+use Rattle.ordering.specs.Laws.Counts.{count-never-passes}
+use Rattle.ordering.specs.Laws.Numbers.{numbered}
+use Rattle.ordering.specs.Laws.Open.{everyMoveLanded, no-move-open-by-the-list}
+use Rattle.ordering.specs.Laws.Ordering.{ordering}
+use Rattle.ordering.specs.Laws.Runs.{fresh-sound, sound-after}
+use Rattle.print_page.specs.Ascii.{asciiLines}
+use Rattle.print_run.specs.Laws.Pieces.{printed-in-pieces}
+use Rattle.print_run.specs.Listing.{listing-prints}
+use Rattle.print_run.specs.Pieces.{Turn, allBytes, inPieces}
+use Rattle.print_run.specs.Printed.{printed, textOf}
+use Rattle.print_run.specs.Run.{Naming}
+use Rattle.print_turn.specs.Turn.{bufferRoom, farthest, longest}
+use Rattle.protocol.specs.Checks.{Check, checks, refusal}
+use Rattle.protocol.specs.Laws.Checks.{given-is-first, first-is-given}
+use Rattle.protocol.specs.Laws.Restart.{
+  never-eighteen,
+  like-any-other,
+  restart-draws,
+  restart-apart,
+  restart-accepted,
+  restart-carried-out,
+}
+use Rattle.protocol.specs.Laws.Step.{step-refused, step-accepted, step-of-sound, step-keeps-sound}
+use Rattle.protocol.specs.Messages.{unreadBetween, sentBetween}
+use Rattle.protocol.specs.Migrate
+use Rattle.protocol.specs.Sound.{sound}
+use Rattle.protocol.specs.Step.{Outcome, apply, step, stepSound, settle}
+use Rattle.protocol.specs.Worked.Spent.{rows-in-order}
+use Rattle.record.specs.Laws.Record.{at-end, no-kind, cut-short, whole, value-back}
+use Rattle.record.specs.Record.{isKind, bodyLength, bodyAt, recordOf, decode, valueOf, bytesOf}
+use Rattle.record.specs.declared.Decoded.the-variants.{Whole, Unknown, Cut}
+use Rattle.record.specs.declared.Record.{Record}
+use Rattle.record.specs.declared.Record.the-variants.{Move}
+use Rattle.transit.specs.Message.{ranks, placeOrder}
+use Rattle.transit.specs.Unread.{limit, mostSent}
+use Rattle.transit.specs.declared.Message.{Message}
+use Rattle.transit.specs.declared.Rank.{Rank}
+use Rattle.transit.specs.declared.Selection.the-variants.{Between}
+use Rattle.broker.specs.declared.process.Status.the-variants.{Running}
+use Rattle.broker.specs.declared.process.Vmid.{Vmid}
+use Rattle.promises.specs.Laws.Rows.{none-applies, none-applied}
+use Rattle.promises.specs.Laws.Shown.{shown, all-shown}
+use Rattle.promises.specs.Words.{Run, _prints_, start, call, route, send, take, move, heed, drain, land, part, end, look}
+
+-- Limits.
+
+-- "Ranks are 0 to 15." "A vmid is a host, 0 to 7, and a number drawn on it, 1, 2, 3 up to 65,535." "At most 1,024 are unread in the whole
+-- desk." "28 for a send when the pair has already sent 4,294,967,295"
+pub limits-of-the-desk :
+    (ranks ≡ 16) × (Names.hosts ≡ 8) × (Names.numbers ≡ 65535) × (limit ≡ 1024) × (mostSent ≡ 4294967295)
+limits-of-the-desk = (refl, refl, refl, refl, refl)
+
+-- "kind is not 01 to 0C", "a body whose length the kind fixes", and the bytes of the longest record
+pub kinds-and-lengths :
+    ((k : ℕ) → isKind k ≡ (leb 1 k && leb k 12)) ×
+    (map bodyLength (1 ∷ 2 ∷ 3 ∷ 4 ∷ 5 ∷ 6 ∷ 7 ∷ 8 ∷ 9 ∷ 10 ∷ 11 ∷ 12 ∷ []) ≡ 2 ∷ 2 ∷ 2 ∷ 6 ∷ 2 ∷ 2 ∷ 2 ∷ 2 ∷ 1 ∷ 2 ∷ 1 ∷ 1 ∷ []) ×
+    (longest ≡ 7)
+kinds-and-lengths = (λ k. refl, refl, refl)
+
+-- "read through at most 65,536 bytes"; a run goes as far as positions of 2^63
+pub limits-of-a-run : (bufferRoom ≡ 65536) × (farthest ≡ 9223372036854775808)
+limits-of-a-run = (refl, refl)
+
+-- "the 32-bit xorshift generator", "1 plus the draw modulo 12", "7 times n bytes"
+pub limits-of-a-made-up-pass : (words ≡ 4294967296) × (MadeUp.kinds ≡ 12) × (MadeUp.longest ≡ 7)
+limits-of-a-made-up-pass = (refl, refl, refl)
+
+-- Demand 2: every step gives exactly the answer, the next position and the next state of paper 01.
+
+-- "1: the lent state is unsound"
+module _ (named : Rank) (s : State) (log : List ℕ) (at : ℕ) where
+  pub unsound-is-1 : sound s ≡ false → step named s log at ≡ record { answer = Refused Unsound; next = at; state = s }
+  unfolding step
+  unsound-is-1 h = rw h
+
+  module _ (ok : sound s ≡ true) where
+    -- "in a sound state at the log's end 3 is given, and no kind is read"
+    pub end-is-3 : length log ≤ at → step named s log at ≡ record { answer = Refused CutShort; next = at; state = s }
+    unfolding stepSound
+    end-is-3 h = rw (step-of-sound named s log at ok, at-end log at h)
+
+    -- "2: kind is not 01 to 0C"
+    pub no-kind-is-2 : at < length log → (leb 1 (getD log at 0) && leb (getD log at 0) 12) ≡ false →
+        step named s log at ≡ record { answer = Refused UnknownKind; next = at; state = s }
+    unfolding stepSound
+    no-kind-is-2 h k = rw (step-of-sound named s log at ok, no-kind log at h k)
+
+    module _ (inside : at < length log) (known : (leb 1 (getD log at 0) && leb (getD log at 0) 12) ≡ true) where
+      -- "3: .. body cut short"
+      pub cut-is-3 : length log < at + 1 + bodyLength (getD log at 0) →
+          step named s log at ≡ record { answer = Refused CutShort; next = at; state = s }
+      unfolding stepSound
+      cut-is-3 h = rw (step-of-sound named s log at ok, cut-short log at inside known h)
+
+      module _ (long : at + 1 + bodyLength (getD log at 0) ≤ length log) where
+        abbrev read : Record
+        read = recordOf (getD log at 0) (ListN.take (bodyLength (getD log at 0)) (drop (at + 1) log))
+
+        -- Where no row of the table applies, the record is carried out.
+        pub no-row-accepts : every (λ (c : Check). not (c .given s read)) checks ≡ true →
+            step named s log at ≡
+            record {
+              answer = Accepted (apply named read s .values);
+              next = at + 1 + bodyLength (getD log at 0);
+              state = apply named read s .state;
+            }
+        unfolding refusal
+        no-row-accepts h =
+            step-accepted named s log at read (at + 1 + bodyLength (getD log at 0)) ok (whole log at inside known long)
+            (none-applies s read checks h)
+
+        -- "The lowest number that applies is given"; "A refusal leaves the state lent for a step unchanged"; "The position passes the record"
+        pub first-row-refuses : (before later : List Check) (row : Check) → checks ≡ before ++ row ∷ later →
+            every (λ (c : Check). not (c .given s read)) before ≡ true → row .given s read ≡ true →
+            step named s log at ≡
+            record { answer = Refused (row .refusal); next = at + 1 + bodyLength (getD log at 0); state = s }
+        unfolding stepSound settle refusal
+        first-row-refuses before later row stands passed applies =
+            let given = first-is-given checks s read (row .refusal)
+            (record {
+              before = before;
+              row = row;
+              after = later;
+              stands = stands;
+              passed = none-applies s read before passed;
+              applies = applies;
+              gives = refl;
+            }) in
+            rw (step-of-sound named s log at ok, whole log at inside known long, given)
+
+  -- "every refusal comes in just the listed case": a check's refusal is given only where its row is the first that applies
+  pub refused-by-the-first : (r : Record) (n : Refusal) → refusal s r ≡ some n →
+      (before : List Check) × (row : Check) × (later : List Check) × (checks ≡ before ++ row ∷ later) ×
+      (every (λ (c : Check). not (c .given s r)) before ≡ true) × (row .given s r ≡ true) × (row .refusal ≡ n)
+  unfolding refusal
+  refused-by-the-first r n e =
+      let f = given-is-first checks s r n e in
+      (f .before, f .row, f .after, f .stands, none-applied s r (f .before) (f .passed), f .applies, f .gives)
+
+  -- Demand 1: "A refusal leaves the state lent for a step unchanged, v1 to v3 zero."
+  pub refusal-keeps-the-state : (n : Refusal) → step named s log at .answer ≡ Refused n →
+      (step named s log at .state ≡ s) × (values (step named s log at .answer) ≡ 0 ∷ 0 ∷ 0 ∷ [])
+  refusal-keeps-the-state n e = let kept = step-refused named s log at n e in (kept .state-kept, kept .zeros)
+
+  -- "Every step keeps a sound state sound."
+  pub step-stays-sound : sound s ≡ true → sound (step named s log at .state) ≡ true
+  step-stays-sound = step-keeps-sound named s log at
+
+  -- Paper 02, change 2: "Number 18 is given no more"
+  pub eighteen-is-given-no-more : number (step named s log at .answer) ≡ 18 → ⊥
+  unfolding NeverEighteen
+  eighteen-is-given-no-more = never-eighteen (step named s log at .answer)
+
+-- The rows of the table, in the order in which they decide.
+pub rows-of-the-table :
+    map (λ (c : Check). refusalNumber (c .refusal)) checks ≡
+    4 ∷ 5 ∷ 6 ∷ 7 ∷ 8 ∷ 9 ∷ 10 ∷ 11 ∷ 12 ∷ 13 ∷ 14 ∷ 15 ∷ 16 ∷ 17 ∷ 19 ∷ 20 ∷ 21 ∷ 22 ∷ 23 ∷ 24 ∷ 25 ∷ 28 ∷ []
+rows-of-the-table = rows-in-order
+
+-- "A list starts from a fresh desk", which is sound.
+pub fresh-desk-is-sound : sound fresh ≡ true
+fresh-desk-is-sound = fresh-sound
+
+-- Demand 3, over every list of steps from a fresh desk: each reads any log at any position, and any rank may be named by its looks.
+module _ (xs : List Reading) where
+  pub stays-sound-over-a-list : sound (after fresh xs) ≡ true
+  stays-sound-over-a-list = sound-after xs fresh fresh-sound
+
+  -- "each pair's taken values then unread values are exactly its sent values in order"
+  pub taken-then-unread-is-sent : (a b : Rank) → a .0 < 16 → b .0 < 16 →
+      taken a b (accepted fresh xs) ++ unread a b (after fresh xs) ≡ sent a b (accepted fresh xs)
+  taken-then-unread-is-sent = ordering .first-half xs
+
+  -- "where no move is open, an equivalent list with unbroken moves exists": it is carried out as it stands; "The second list has the first's
+  -- accepted starts, moves, sends, takes and ends with the same kinds and bodies, in one order over all five"; each pair has taken the same
+  -- and has the same unread; "Standing, and host and number of the current end .. are compared in the states that the two lists leave"
+  pub second-list : noMoveOpen (after fresh xs) ≡ true →
+      (list : List Reading) ×
+      (areBytes xs ≡ true → areBytes list ≡ true) ×
+      (everyAccepted fresh list ≡ true) ×
+      (unbroken none (records (accepted fresh list)) ≡ true) ×
+      (fiveKinds (accepted fresh list) ≡ fiveKinds (accepted fresh xs)) ×
+      ((a b : Rank) → taken a b (accepted fresh list) ≡ taken a b (accepted fresh xs)) ×
+      ((a b : Rank) → a .0 < 16 → b .0 < 16 → unread a b (after fresh list) ≡ unread a b (after fresh xs)) ×
+      ((r : Rank) → r .0 < 16 → status (after fresh list) r ≡ status (after fresh xs) r)
+  second-list h =
+      let l = ordering .second-half xs h in
+      (l .list, l .bytes, l .all-accepted, l .moves-unbroken, l .same-steps, l .same-taken, l .same-unread, l .same-status)
+
+  -- "A move is open from its accepted 06 until its accepted 09"
+  pub open-moves-by-the-list : noMoveOpen (after fresh xs) ≡ everyMoveLanded (records (accepted fresh xs))
+  open-moves-by-the-list = no-move-open-by-the-list xs
+
+  -- Paper 02, change 4: "the numbers taken by a pair are 1, 2, 3 without a gap as far as taken"; with those of the unread behind them they
+  -- are 1 to "the count sent", which is that of the accepted sends
+  pub running-numbers : (a b : Rank) → a .0 < 16 → b .0 < 16 →
+      let es = accepted fresh xs in
+      let end = after fresh xs in
+      let numbers-taken = map (λ (e : Entry). e .v3) (select (isTake a b) es) in
+      let numbers-unread = map (λ (m : Message). m .sequence) (placeOrder (Between a b) (messages end)) in
+      (numbers-taken ≡ upFrom 1 (length (taken a b es))) ×
+      (numbers-taken ++ numbers-unread ≡ upFrom 1 (sentBetween a b end)) ×
+      (sentBetween a b end ≡ length (sent a b es))
+  running-numbers a b ha hb = let n = numbered xs a b ha hb in (n .without-a-gap, n .to-the-count-sent, n .sends-counted)
+
+  -- Paper 02, change 3: "The unread count of a pair never passes 1,024."
+  pub unread-of-a-pair : (a b : Rank) → unreadBetween a b (after fresh xs) ≤ 1024
+  unread-of-a-pair = count-never-passes xs
+
+-- Paper 02, change 2: "A move to the rank's present host is accepted and draws a number like any other."
+pub restart : (s : State) (r : Rank) (v : Vmid) → sound s ≡ true → r .0 < 16 → status s r ≡ Running v →
+    (v .1 < drawnOn s (v .0) + 1) ×
+    (Names.isOpenRequest (request s r) ≡ false → drawnOn s (v .0) < 65535 →
+    (refusal s (Move r (v .0)) ≡ none) ×
+    ((named : Rank) (log : List ℕ) (at next : ℕ) → decode log at ≡ Whole (Move r (v .0)) next →
+    step named s log at ≡
+    record { answer = Accepted (Migrate.move r (v .0) s .values); next = next; state = Migrate.move r (v .0) s .state }))
+restart s r v ok in-range runs = (
+  restart-draws s r v ok in-range runs,
+  λ idle room. (
+    restart-accepted s r v ok in-range runs idle room,
+    restart-carried-out s r v ok in-range runs idle room,
+  ),
+)
+
+pub restart-like-any-move : (s : State) (r : Rank) (h k : ℕ) → h < 8 → k < 8 → drawnOn s h < 65535 → drawnOn s k < 65535 →
+    refusal s (Move r h) ≡ refusal s (Move r k)
+restart-like-any-move = like-any-other
+
+-- "the value is four bytes, least significant first"
+pub value-in-four-bytes : (v : ℕ) → v < 2 ^ 32 → valueOf (v % 256) (v / 256 % 256) (v / 65536 % 256) (v / 16777216 % 256) ≡ v
+value-in-four-bytes = value-back
+
+-- Printed runs.
+
+-- "Cases A to J below form one table whose truth, as a whole, is a theorem of the definitions.": "From a fresh desk, ranks 0 and 1 started on
+-- hosts 0 and 1 where C to J need them running": each case as the run that it prints.
+abbrev pub edges : List Run
+edges =
+    -- "A start 15 on 7 accepted."
+    start 15 7 prints ("0 01 0 7 1 0" ∷ "end" ∷ []) ∷
+    -- "B start 16: 4."
+    start 16 0 prints ("0 01 4 0 0 0" ∷ "end" ∷ []) ∷
+    -- "C start 2 on 8: 5."
+    (two ++ start 2 8) prints (two-lines ++ "6 01 5 0 0 0" ∷ "end" ∷ []) ∷
+    -- "D call 0 0: 6."
+    (two ++ call 0 0) prints (two-lines ++ "6 02 6 0 0 0" ∷ "end" ∷ []) ∷
+    -- "E take with both ranks running, nothing sent: 22."
+    (two ++ take 1 0) prints (two-lines ++ "6 05 22 0 0 0" ∷ "end" ∷ []) ∷
+    -- "F calls 0 to 1 and 1 to 0, route 0 1: both calls gone.": so that both ranks can end, which 13 hinders where a call is open
+    (two ++ call 0 1 ++ call 1 0 ++ route 0 1 ++ part 0 1 ++ end 0 ++ end 1) prints
+    (two-lines ++ "6 02 0 1 1 0" ∷ "9 02 0 0 1 0" ∷ "12 03 0 0 1 1" ∷ "15 0A 0 0 0 0" ∷ "18 0B 0 0 0 0" ∷ "20 0B 0 0 0 0" ∷ "end" ∷ []) ∷
+    -- "G joined 0 and 1 both move: both awaits marked, no heed needed (heed: 17).": so that a drain of each finds the end marker
+    (two ++ join ++ move 0 2 ++ move 1 3 ++ heed 0 1 ++ heed 1 0 ++ drain 0 1 ++ drain 1 0 ++ land 0 ++ land 1) prints
+    (two-lines ++ join-lines ++ "12 06 0 2 1 1" ∷ "15 06 0 3 1 1" ∷ "18 07 17 0 0 0" ∷ "21 07 17 0 0 0" ∷
+    "24 08 0 1 0 0" ∷ "27 08 0 1 0 0" ∷ "30 09 0 0 0 0" ∷ "32 09 0 0 0 0" ∷ "end" ∷ []) ∷
+    -- "H move without lines, then land: accepted."
+    (two ++ move 0 2 ++ land 0) prints (two-lines ++ "6 06 0 2 1 0" ∷ "9 09 0 0 0 0" ∷ "end" ∷ []) ∷
+    -- "I land with await unheeded: 19."
+    (two ++ join ++ move 1 2 ++ land 1) prints (two-lines ++ join-lines ++ "12 06 0 2 1 1" ∷ "15 09 19 0 0 0" ∷ "end" ∷ []) ∷
+    -- "J drain then: 21."
+    (two ++ join ++ move 1 2 ++ land 1 ++ drain 1 0) prints
+    (two-lines ++ join-lines ++ "12 06 0 2 1 1" ∷ "15 09 19 0 0 0" ∷ "17 08 21 0 0 0" ∷ "end" ∷ []) ∷ []
+  where
+    two : List ℕ
+    two = start 0 0 ++ start 1 1
+
+    two-lines : List String
+    two-lines = "0 01 0 0 1 0" ∷ "3 01 0 1 1 0" ∷ []
+
+    join : List ℕ
+    join = call 0 1 ++ route 0 1
+
+    join-lines : List String
+    join-lines = "6 02 0 1 1 0" ∷ "9 03 0 0 1 1" ∷ []
+
+-- They print so, whatever rank a look would name.
+pub edges-print : (named : Naming) → map (λ (r : Run). printed named fresh (r .log)) edges ≡ map (λ (r : Run). asciiLines (r .lines)) edges
+unfolding shown
+edges-print named = all-shown named edges
+
+-- "v1, v2, v3 are the answer's values; an unnamed one is 0": each kind in each way that it can go, from ranks 0 and 1 on host 5 and rank 2
+-- on host 6.
+abbrev pub kinds-of-steps : List Run
+kinds-of-steps =
+    -- 01 start: "r runs on h with h's next number; everybody's entry for r becomes that vmid. v1 host, v2 number."
+    (three ++ call 2 1 ++ start 3 6) prints (three-lines ++ "9 02 0 5 2 0" ∷ "12 01 0 6 2 0" ∷ "end" ∷ []) ∷
+    -- 02 call: "opens a's call, posted to a's entry for b. v1 host, v2 number."
+    (three ++ call 0 1 ++ call 0 2) prints (three-lines ++ "9 02 0 5 2 0" ∷ "12 02 13 0 0 0" ∷ "end" ∷ []) ∷
+    -- 03 route: "If the posted vmid is b's current end, a plain line stands both ways, .. v1 is 0, v2 and v3 host and number."
+    (three ++ join ++ call 0 1 ++ call 1 0) prints (three-lines ++ join-lines ++ "15 02 12 0 0 0" ∷ "18 02 12 0 0 0" ∷ "end" ∷ []) ∷
+    -- "Otherwise v1 is 1, and a's entry and the posted vmid become b's current end, given in v2 and v3."
+    (three ++ move 1 6 ++ call 0 1 ++ route 0 1 ++ route 0 1 ++ part 0 1 ++ call 0 1) prints
+    (three-lines ++ "9 06 0 6 2 0" ∷ "12 02 0 5 2 0" ∷ "15 03 0 1 6 2" ∷ "18 03 0 0 6 2" ∷ "21 0A 0 0 0 0" ∷ "24 02 0 6 2 0" ∷
+    "end" ∷ []) ∷
+    -- "if b is ended, the call closes, v1 is 2"; "After a route v1 of 2, table entries stay."
+    (three ++ move 1 6 ++ land 1 ++ call 0 1 ++ end 1 ++ route 0 1 ++ call 0 1) prints
+    (three-lines ++ "9 06 0 6 2 0" ∷ "12 09 0 0 0 0" ∷ "14 02 0 5 2 0" ∷ "17 0B 0 0 0 0" ∷ "19 03 0 2 0 0" ∷ "22 02 0 5 2 0" ∷
+    "end" ∷ []) ∷
+    -- 04 send: "place 3 on a plain line, place 1 on a notice line. v1 unread of the pair afterwards."
+    (three ++ join ++ send 0 1 10 ++ send 1 0 20 ++ send 0 1 11 ++ move 1 6 ++ send 0 1 12) prints
+    (three-lines ++ join-lines ++ "15 04 0 1 0 0" ∷ "22 04 0 1 0 0" ∷ "29 04 0 2 0 0" ∷ "36 06 0 6 2 1" ∷ "39 04 0 3 0 0" ∷
+    "pair 0 1 0 3 0 0" ∷ "pair 1 0 0 0 0 1" ∷ "end" ∷ []) ∷
+    -- 05 take: "the first unread message from a to b in place order leaves. v1 value, v2 unread of the pair afterwards."; paper 02, change 4:
+    -- "A take gives it as v3"
+    (three ++ join ++ send 0 1 513 ++ send 1 0 20 ++ send 0 1 11 ++ take 1 0 ++ take 1 0 ++ take 1 0 ++ take 0 1) prints
+    (three-lines ++ join-lines ++ "15 04 0 1 0 0" ∷ "22 04 0 1 0 0" ∷ "29 04 0 2 0 0" ∷ "36 05 0 513 1 1" ∷ "39 05 0 11 0 2" ∷
+    "42 05 22 0 0 0" ∷ "45 05 0 20 0 1" ∷ "end" ∷ []) ∷
+    -- 06 move: "v1 host, v2 number, v3 r's awaits not none": of rank 1 one across the notice of rank 0, and one of rank 2
+    (three ++ join ++ call 1 2 ++ route 1 2 ++ move 0 7 ++ move 1 6) prints
+    (three-lines ++ join-lines ++ "15 02 0 6 1 0" ∷ "18 03 0 0 6 1" ∷ "21 06 0 7 1 1" ∷ "24 06 0 6 2 2" ∷ "end" ∷ []) ∷
+    -- Paper 02, change 2: "A move to the rank's present host is accepted and draws a number like any other."
+    (three ++ move 1 5 ++ move 1 5 ++ call 0 1 ++ route 0 1 ++ route 0 1 ++ land 1 ++ start 3 5 ++ move 1 5) prints
+    (three-lines ++ "9 06 0 5 3 0" ∷ "12 06 10 0 0 0" ∷ "15 02 0 5 2 0" ∷ "18 03 0 1 5 3" ∷ "21 03 0 0 5 3" ∷ "24 09 0 0 0 0" ∷
+    "26 01 0 5 4 0" ∷ "29 06 0 5 5 1" ∷ "end" ∷ []) ∷
+    -- 07 heed: "messages from r to b at place 3 go to 2; .. v1 messages moved."
+    (three ++ join ++ send 1 0 20 ++ send 1 0 21 ++ send 0 1 10 ++ move 1 6 ++ heed 0 1) prints
+    (three-lines ++ join-lines ++ "15 04 0 1 0 0" ∷ "22 04 0 2 0 0" ∷ "29 04 0 1 0 0" ∷ "36 06 0 6 2 1" ∷ "39 07 0 2 0 0" ∷
+    "pair 0 1 0 1 0 0" ∷ "pair 1 0 0 0 2 0" ∷ "end" ∷ []) ∷
+    -- 08 drain: "the first goes to 0, v1 is 0, v2 its value. Else a marked await becomes none, v1 is 1."; change 4: "a drain that moves a
+    -- message does too", of v3
+    (three ++ join ++ send 0 1 10 ++ send 0 1 11 ++ move 1 6 ++ heed 0 1 ++ drain 1 0 ++ drain 1 0 ++ drain 1 0) prints
+    (three-lines ++ join-lines ++ "15 04 0 1 0 0" ∷ "22 04 0 2 0 0" ∷ "29 06 0 6 2 1" ∷ "32 07 0 0 0 0" ∷ "35 08 0 0 10 1" ∷
+    "38 08 0 0 11 2" ∷ "41 08 0 1 0 0" ∷ "pair 0 1 2 0 0 0" ∷ "end" ∷ []) ∷
+    -- 09 land: "place 0 goes to 2, .. v1 messages then at place 2": behind the one drained the two that were in the arrival's list already
+    (three ++ join ++ send 0 1 10 ++ move 1 6 ++ heed 0 1 ++ call 0 1 ++ route 0 1 ++ route 0 1 ++ send 0 1 11 ++ send 0 1 12 ++
+    part 0 1 ++ drain 1 0 ++ drain 1 0 ++ land 1 ++ take 1 0) prints
+    (three-lines ++ join-lines ++ "15 04 0 1 0 0" ∷ "22 06 0 6 2 1" ∷ "25 07 0 0 0 0" ∷ "28 02 0 5 2 0" ∷ "31 03 0 1 6 2" ∷
+    "34 03 0 0 6 2" ∷ "37 04 0 2 0 0" ∷ "44 04 0 3 0 0" ∷ "51 0A 0 0 2 0" ∷ "54 08 0 0 10 1" ∷ "57 08 0 1 0 0" ∷ "60 09 0 3 0 0" ∷
+    "62 05 0 10 2 1" ∷ "pair 0 1 0 0 2 0" ∷ "end" ∷ []) ∷
+    -- 0A part: "place 3 goes to 2 for both directions; .. v1 messages moved towards a, v2 towards b."
+    (three ++ join ++ send 0 1 10 ++ part 0 1 ++ join ++ send 0 1 11 ++ send 1 0 20 ++ send 1 0 21 ++ part 0 1) prints
+    (three-lines ++ join-lines ++ "15 04 0 1 0 0" ∷ "22 0A 0 0 1 0" ∷ "25 02 0 5 2 0" ∷ "28 03 0 0 5 2" ∷ "31 04 0 2 0 0" ∷
+    "38 04 0 1 0 0" ∷ "45 04 0 2 0 0" ∷ "52 0A 0 2 1 0" ∷ "pair 0 1 0 0 2 0" ∷ "pair 1 0 0 0 2 0" ∷ "end" ∷ []) ∷
+    -- 0B end: "r is ended."
+    (three ++ end 2 ++ look 2) prints (three-lines ++ "9 0B 0 0 0 0" ∷ "11 0C 9 0 0 0" ∷ "end" ∷ []) ∷
+    -- 0C look: "v1 a rank with a message unread by r"
+    (three ++ call 2 1 ++ route 2 1 ++ send 2 1 10 ++ look 1) prints
+    (three-lines ++ "9 02 0 5 2 0" ∷ "12 03 0 0 5 2" ∷ "15 04 0 1 0 0" ∷ "22 0C 0 2 0 0" ∷ "pair 2 1 0 0 0 1" ∷ "end" ∷ []) ∷ []
+  where
+    three : List ℕ
+    three = start 0 5 ++ start 1 5 ++ start 2 6
+
+    three-lines : List String
+    three-lines = "0 01 0 5 1 0" ∷ "3 01 0 5 2 0" ∷ "6 01 0 6 1 0" ∷ []
+
+    join : List ℕ
+    join = call 0 1 ++ route 0 1
+
+    join-lines : List String
+    join-lines = "9 02 0 5 2 0" ∷ "12 03 0 0 5 2" ∷ []
+
+pub kinds-print :
+    map (λ (r : Run). printed nameFor fresh (r .log)) kinds-of-steps ≡ map (λ (r : Run). asciiLines (r .lines)) kinds-of-steps
+unfolding shown
+kinds-print = all-shown nameFor kinds-of-steps
+
+-- "For start 0 0, start 1 1, call 0 1, route 0 1, send 0 1 500, move 1 2, send 0 1 501, heed 0 1, call 0 1, route 0 1 twice, send 0 1 502,
+-- land 1, drain 1 0 three times, land 1, take 1 0", with the running numbers of paper 02, change 4
+abbrev pub listing : Run
+listing =
+    (start 0 0 ++ start 1 1 ++ call 0 1 ++ route 0 1 ++ send 0 1 500 ++ move 1 2 ++ send 0 1 501 ++ heed 0 1 ++ call 0 1 ++
+    route 0 1 ++ route 0 1 ++ send 0 1 502 ++ land 1 ++ drain 1 0 ++ drain 1 0 ++ drain 1 0 ++ land 1 ++ take 1 0) prints
+    ("0 01 0 0 1 0" ∷ "3 01 0 1 1 0" ∷ "6 02 0 1 1 0" ∷ "9 03 0 0 1 1" ∷ "12 04 0 1 0 0" ∷ "19 06 0 2 1 1" ∷ "22 04 0 2 0 0" ∷
+    "29 07 0 0 0 0" ∷ "32 02 0 1 1 0" ∷ "35 03 0 1 2 1" ∷ "38 03 0 0 2 1" ∷ "41 04 0 3 0 0" ∷ "48 09 19 0 0 0" ∷
+    "50 08 0 0 500 1" ∷ "53 08 0 0 501 2" ∷ "56 08 0 1 0 0" ∷ "59 09 0 2 0 0" ∷ "61 05 0 500 2 1" ∷ "pair 0 1 0 0 1 1" ∷ "end" ∷ [])
+
+pub listing-prints-so : (named : Naming) → printed named fresh (listing .log) ≡ asciiLines (listing .lines)
+listing-prints-so = listing-prints
+
+-- "Input may be of any length, read through at most 65,536 bytes": a log that is read in pieces of any lengths, and of which any number of
+-- records is run before more is read, prints the run of the whole.
+pub printed-in-any-pieces : (named : Naming) (ts : List Turn) →
+    textOf (inPieces named 0 fresh [] ts) ≡ printed named fresh (allBytes ts)
+printed-in-any-pieces named ts = printed-in-pieces named ts fresh fresh-sound
