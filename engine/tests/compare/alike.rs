@@ -8,7 +8,7 @@ use crate::program::{Input, Program};
 use crate::tally::Tally;
 use crate::{
     full_pair, garbage, limits, made_up, paper, probes, random, restarts, running_numbers,
-    short_records, window,
+    short_records, two_checks, window,
 };
 use engine::text::decode;
 use std::fs::{self, File};
@@ -30,6 +30,7 @@ static LOGS: LazyLock<Vec<Log>> = LazyLock::new(|| {
     [
         short_records::logs(),
         limits::logs(),
+        two_checks::logs(),
         window::logs(),
         running_numbers::logs(),
         made_up::logs(),
@@ -125,9 +126,10 @@ fn program_prints_every_log_alike() {
     assert!(found.is_empty(), "differences:\n{}", found.join("\n"));
     let tally = Tally::of(&LOGS);
     let report = format!(
-        "program: {}\n{}\nof these, made-up passes:\n{}",
+        "program: {}\n{}\nof these, where two checks apply:\n{}\nof these, made-up passes:\n{}",
         program.path.display(),
         tally.report(),
+        two_checks::report(),
         Tally::of(&made_up::logs()).answers_report()
     );
     print!("{report}");

@@ -56,12 +56,20 @@ fn exhausted() -> Vec<u8> {
     log
 }
 
-/// Rank 0 restarts until all numbers of host 0 are drawn. Then nobody starts,
-/// restarts or comes there any more, and rank 0 moves elsewhere.
-fn exhausted_by_restarts() -> Vec<u8> {
+/// Rank 0 restarts until all numbers of host 0 are drawn.
+pub fn all_numbers_of_host_0() -> Vec<u8> {
     [
         log_of("start 0 0"),
         log_of("move 0 0, land 0").repeat(65_534),
+    ]
+    .concat()
+}
+
+/// By restarts. Then nobody starts, restarts or comes there any more, and rank 0
+/// moves elsewhere.
+fn exhausted_by_restarts() -> Vec<u8> {
+    [
+        all_numbers_of_host_0(),
         log_of("move 0 0, land 0, start 1 0, start 1 1, move 1 0, move 1 1, land 1"),
         log_of("move 0 1, land 0, move 0 0, move 0 1, land 0"),
     ]

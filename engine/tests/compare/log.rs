@@ -1,8 +1,8 @@
 //! A log to compare on, with a name for reports and the way it is handed to
 //! the program; and how such logs are made.
 
+use crate::step_log::record_of;
 use engine::proposals::{Mix, Proposer};
-use engine::text::encode;
 use engine::{Desk, Step};
 use std::ops::Range;
 
@@ -62,7 +62,7 @@ impl Log {
 
 /// The log of steps written as the paper writes them, "start 0 0, call 0 1".
 pub fn log_of(steps: &str) -> Vec<u8> {
-    encode(&steps.replace(", ", "\n")).unwrap_or_else(|errors| panic!("{errors:?} of '{steps}'"))
+    steps.split(", ").flat_map(record_of).collect()
 }
 
 /// The value of a pair's message by its index in the order of sending; all

@@ -16,6 +16,8 @@ mod made_up;
 #[path = "../shared/made_up_log.rs"]
 mod made_up_log;
 mod paper;
+#[path = "../shared/plain_table.rs"]
+mod plain_table;
 #[path = "../shared/printed_run.rs"]
 mod printed_run;
 mod probes;
@@ -29,5 +31,8 @@ mod script;
 mod short_records;
 #[path = "../shared/situations.rs"]
 mod situations;
+#[path = "../shared/step_log.rs"]
+mod step_log;
 mod tally;
+mod two_checks;
 mod window;

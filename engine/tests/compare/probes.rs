@@ -8,7 +8,7 @@ use engine::proposals::step_of;
 use engine::{Kind, Rank, Step};
 
 /// All steps with ranks and hosts up to one past the last.
-fn all_steps() -> impl Iterator<Item = Step> {
+pub fn all_steps() -> impl Iterator<Item = Step> {
     let past = Rank::COUNT as u8;
     Kind::ALL.into_iter().flat_map(move |kind| {
         let last = if kind.body().len() == 1 { 0 } else { past };

@@ -24,3 +24,4 @@ mod tree;
 mod unused;
 mod volume;
 mod words;
+mod wrong_desks;

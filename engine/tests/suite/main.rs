@@ -14,6 +14,7 @@ mod made_up;
 #[path = "../shared/made_up_log.rs"]
 mod made_up_log;
 mod plain_reading;
+#[path = "../shared/plain_table.rs"]
 mod plain_table;
 #[path = "../shared/printed_run.rs"]
 mod printed_run;

@@ -3,7 +3,7 @@
 //! lists run on it and on the engine: answers and whole states must be equal
 //! after each step.
 
-use crate::plain_table::lowest_number;
+use crate::plain_table::applying;
 use engine::proposals::{Mix, Proposer};
 use engine::refusal::{number_of, values_of};
 use engine::{Await, Call, Desk, Host, Line, Message, Rank, Snapshot, Standing, Values, Vmid};
@@ -206,7 +206,7 @@ fn compare_from(mut plain: Snapshot, seed: u64, mix: Mix, steps: usize) -> usize
         let mut record = Vec::new();
         step.write(&mut record);
         let answer = desk.step_sound(&record, 0).answer;
-        let number = lowest_number(&plain, &record);
+        let number = applying(&plain, &record).first().copied().unwrap_or(0);
         assert_eq!(number_of(&answer), number, "{step:?}");
         exhausted += usize::from(number == 28);
         if number == 0 && record[0] == 0x0C {

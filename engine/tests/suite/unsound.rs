@@ -2,6 +2,7 @@
 //! adds, states that break that clause and no other, with a record that is
 //! accepted in the state they were spoiled from. State and position stay.
 
+use crate::refusals::rows;
 use crate::text::{desk_after, log_of};
 use engine::{broken_clauses, step, Await, Call, Clause, Host, Line, Message, Outcome};
 use engine::{Rank, Refusal, Snapshot, Standing, Vmid};
@@ -235,6 +236,22 @@ fn each_clause_of_soundness_is_refused_with_1() {
             assert_eq!(
                 step(&mut state, &[0xFF], 0).answer,
                 Err(Refusal::UnsoundState)
+            );
+        }
+    }
+}
+
+/// Whatever other number a record would get.
+#[test]
+fn an_unsound_state_gives_1_before_every_other_number() {
+    for (number, mut state, records) in rows() {
+        state.drawn[7] = 65_536;
+        for record in records {
+            let outcome = step(&mut state, &log_of(record), 0);
+            assert_eq!(
+                outcome.answer,
+                Err(Refusal::UnsoundState),
+                "{record}, not {number}"
             );
         }
     }

@@ -1,23 +1,25 @@
 //! Paper 01's table of checks read row by row on the plain state, as paper 02
-//! has changed it: each number has its own test of when it is given, and the
-//! lowest that applies is given. The engine's own checks are ordered kind by
-//! kind; the two must agree.
+//! has changed it: each number has its own test of when it applies, whatever
+//! lower ones do. "The lowest number that applies is given." The engine's own
+//! checks are ordered kind by kind; the two must agree.
 
 use crate::check_table::NAMED;
 use crate::step_log::{Listed, KINDS};
-use engine::{Await, Line, Snapshot, Standing};
+use engine::{Await, Call, Line, Snapshot, Standing};
 
-/// The lowest number of the table that applies to a whole record of a known
-/// kind in a sound state, or 0.
-pub fn lowest_number(state: &Snapshot, record: &[u8]) -> u8 {
+/// The numbers of the table that apply to a whole record of a known kind in a
+/// sound state, the lowest first.
+pub fn applying(state: &Snapshot, record: &[u8]) -> Vec<u8> {
     let row = Row { state, record };
     let named = NAMED
         .iter()
         .filter(|(_, words)| words.contains(&row.word()));
-    let mut numbers = named.map(|(number, _)| *number);
-    numbers.find(|&number| row.applies(number)).unwrap_or(0)
+    let numbers = named.map(|(number, _)| *number);
+    numbers.filter(|&number| row.applies(number)).collect()
 }
 
+/// A rank above 15 is read as one that nobody has started, which has no line,
+/// call, await or message, and a host above 7 as one with no numbers drawn.
 struct Row<'a> {
     state: &'a Snapshot,
     record: &'a [u8],
@@ -48,16 +50,35 @@ impl Row<'_> {
         usize::from(self.record[2])
     }
 
+    fn standing_of(&self, rank: usize) -> Standing {
+        let standing = self.state.standings.get(rank);
+        standing.copied().unwrap_or(Standing::Unstarted)
+    }
+
     fn standing(&self) -> Standing {
-        self.state.standings[self.first()]
+        self.standing_of(self.first())
+    }
+
+    fn call(&self) -> Option<Call> {
+        self.state.calls.get(self.first()).copied().flatten()
+    }
+
+    /// What the first rank has with each rank.
+    fn of_first<'a, T>(&self, rows: &'a [[T; 16]; 16]) -> &'a [T] {
+        rows.get(self.first()).map_or(&[], |row| row)
+    }
+
+    /// What the first rank has with the second.
+    fn of_pair<T: Copy>(&self, rows: &[[T; 16]; 16]) -> Option<T> {
+        self.of_first(rows).get(self.second()).copied()
     }
 
     fn line(&self) -> Line {
-        self.state.lines[self.first()][self.second()]
+        self.of_pair(&self.state.lines).unwrap_or(Line::None)
     }
 
     fn awaited(&self) -> Await {
-        self.state.awaits[self.first()][self.second()]
+        self.of_pair(&self.state.awaits).unwrap_or(Await::None)
     }
 
     /// Messages from a sender to a receiver, at any of these places.
@@ -78,9 +99,8 @@ impl Row<'_> {
             5 => self.second() > 7,
             6 => matches!(self.ranks()[..], [one, other] if one == other),
             7 => {
-                let standings = self.ranks().into_iter().map(usize::from);
-                let mut standings = standings.map(|rank| state.standings[rank]);
-                standings.any(|standing| standing == Standing::Unstarted)
+                let mut ranks = self.ranks().into_iter().map(usize::from);
+                ranks.any(|rank| self.standing_of(rank) == Standing::Unstarted)
             }
             8 => self.standing() != Standing::Unstarted,
             9 => self.standing().is_ended(),
@@ -88,21 +108,22 @@ impl Row<'_> {
             11 => !self.standing().is_moving(),
             12 => match self.word() {
                 "call" => self.line() != Line::None,
-                _ => state.lines[self.first()]
-                    .iter()
-                    .any(|&line| line != Line::None),
+                _ => {
+                    let mut lines = self.of_first(&state.lines).iter();
+                    lines.any(|&line| line != Line::None)
+                }
             },
-            13 => state.calls[self.first()].is_some(),
+            13 => self.call().is_some(),
             14 => {
-                let called = state.calls[self.first()].map(|call| call.called.index());
+                let called = self.call().map(|call| call.called.index());
                 called != Some(self.second())
             }
             15 => self.line() == Line::None,
             16 => self.line() == Line::Notice,
             17 => self.line() != Line::Notice,
             19 => {
-                let awaits = &state.awaits[self.first()];
-                awaits.iter().any(|&awaited| awaited != Await::None)
+                let mut awaits = self.of_first(&state.awaits).iter();
+                awaits.any(|&awaited| awaited != Await::None)
             }
             20 => self.awaited() == Await::None,
             21 => {
@@ -115,8 +136,11 @@ impl Row<'_> {
             },
             23 => self.any_message(None, self.first(), ANY_PLACE),
             24 => state.messages.len() >= 1_024,
-            25 => state.drawn[self.second()] >= 65_535,
-            28 => state.sent[self.first()][self.second()] == 4_294_967_295,
+            25 => {
+                let drawn = state.drawn.get(self.second());
+                drawn.is_some_and(|&drawn| drawn >= 65_535)
+            }
+            28 => self.of_pair(&state.sent) == Some(4_294_967_295),
             _ => unreachable!("the table has no such row"),
         }
     }
