@@ -1,5 +1,5 @@
 -- The operations on the unread messages, to open by one name: for a worked example, which computes a run. A law of the layers above
--- does not open it, and cites those of the operations, Laws/Operations and Laws/Removed. Assumes nothing.
+-- opens none of them, and cites the laws of Laws/Operations and Laws/Removed. Assumes nothing.
 use Rattle.transit.specs.Unread.{Unread, appended, relabelAll, relabelFirst, removed}
 
 -- what is unread; where this is opened, every operation on it computes
