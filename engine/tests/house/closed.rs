@@ -6,7 +6,7 @@
 
 use crate::citations::{antt_part, cited, known, paths, whole_name, without_package};
 use crate::tree::{expect_none, sources, Source};
-use crate::words::{head, words, Word};
+use crate::words::{words, Word};
 use std::collections::HashSet;
 
 /// What the crates of the lower part begin with.
@@ -43,9 +43,11 @@ struct Opener {
 fn openers(source: &Source) -> Vec<Opener> {
     let text = antt_part(source);
     let known = known(&text);
-    let whole = |word: &Word| match known.contains_key(head(word.text)) {
-        true => paths(word, &known).pop(),
-        false => without_package(word.text).or(Some(whole_name(&source.path, word.text))),
+    let whole = |word: &Word| {
+        let imported = paths(word, &known)
+            .pop()
+            .or_else(|| without_package(word.text));
+        imported.unwrap_or_else(|| whole_name(&source.path, word.text))
     };
     let words = words(&text);
     let opens = |at: &usize| matches!(words[*at].text, "unfolding" | "unfold");
@@ -55,7 +57,7 @@ fn openers(source: &Source) -> Vec<Opener> {
         Opener {
             line: words[at].line,
             name: whole_name(&source.path, next.map_or("", |word| word.text)),
-            opened: names.iter().filter_map(whole).collect(),
+            opened: names.iter().map(whole).collect(),
         }
     };
     (0..words.len()).filter(opens).map(opener).collect()
