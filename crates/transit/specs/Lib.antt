@@ -8,4 +8,5 @@ pub mod Mail
 pub mod Sent
 pub mod Pick
 pub mod Search
+pub mod Opened
 pub mod Laws

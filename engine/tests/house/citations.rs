@@ -16,7 +16,7 @@ pub fn whole_name(path: &str, name: &str) -> String {
 /// A path of an import without its package: `Rattle.protocol.specs.Step`,
 /// as the crate itself says, and `Rattle.protocol.specs.Step`, as others say, are
 /// both `protocol.specs.Step`.
-fn without_package(path: &str) -> Option<String> {
+pub fn without_package(path: &str) -> Option<String> {
     let (package, rest) = path.strip_prefix("Rattle·")?.split_once('.')?;
     let name = package.split('·').next()?;
     Some(format!("{name}.{rest}"))
@@ -33,7 +33,7 @@ pub fn cited(source: &Source) -> HashSet<String> {
 }
 
 /// The whole names of what a text imports, by the words that stand for them.
-fn known(text: &str) -> HashMap<String, String> {
+pub fn known(text: &str) -> HashMap<String, String> {
     let mut known = HashMap::new();
     for import in imports(text) {
         let names = signs(&import.local).into_iter().chain([&import.local[..]]);
@@ -53,7 +53,7 @@ pub fn antt_part(source: &Source) -> String {
 
 /// The whole names that a word goes through: of `Kind.find` that of `Kind`, and
 /// with `find`.
-fn paths(word: &Word, known: &HashMap<String, String>) -> Vec<String> {
+pub fn paths(word: &Word, known: &HashMap<String, String>) -> Vec<String> {
     let mut parts = word.text.split('.');
     let first = parts.next().and_then(|head| known.get(head));
     let mut found: Vec<String> = first.into_iter().cloned().collect();

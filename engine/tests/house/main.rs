@@ -1,11 +1,12 @@
 //! The rules of the house, held against the tree: what is imported is used, a
 //! public law is cited or promised, lines and paths can be read, the proofs are
-//! small beside the code, a pair's count is widened at one place, and the
-//! documents name what is there. Each rule is one test, and fails with the
-//! whole list of what it found, as FILE:LINE: WHAT.
+//! small beside the code, a pair's count is widened at one place, the lower
+//! part is closed, and the documents name what is there. Each rule is one test,
+//! and fails with the whole list of what it found, as FILE:LINE: WHAT.
 
 mod aliases;
 mod citations;
+mod closed;
 mod code;
 mod counts;
 mod glossary;

@@ -3,7 +3,7 @@ use mathlib.Core.Bool.{Bool}
 use mathlib.Core.List.{List}
 use mathlib.Core.Option.{Option}
 use Prim.Native.Nat.{ℕ}
-use Rattle.transit.specs.Unread
+use Rattle.transit.specs.Opened.{openedUnread}
 use Rattle.transit.specs.declared.Rank.{Rank}
 use Rattle.protocol.specs.Checks
 use Rattle.protocol.specs.Connect
@@ -47,10 +47,10 @@ unfoldable pub openedSound : State → Bool
 unfolding Sound.sound Sound.shaped openedNames openedPairs openedMessages
 openedSound s = Sound.sound s
 
--- a step of a sound state; where this is opened, all that it computes with is open
+-- a step of a sound state; where this is opened, all that it computes with is open, and so the lower part's operations: for what is
+-- computed alone, and for no law
 unfoldable pub opened : Rank → State → List ℕ → ℕ → Outcome
-unfolding stepSound settle apply decode recordOf openedChecks Unread.appended Unread.relabelAll Unread.relabelFirst
-    Unread.removed Life.announced Life.start Life.end Connect.call Connect.route Connect.part Messages.send
-    Messages.take Messages.look Migrate.leaveAll Migrate.move Migrate.heed Migrate.drain Migrate.land everyRank
-    everyPair countRanks eachRank
+unfolding stepSound settle apply decode recordOf openedChecks openedUnread Life.announced Life.start Life.end Connect.call
+    Connect.route Connect.part Messages.send Messages.take Messages.look Migrate.leaveAll Migrate.move Migrate.heed
+    Migrate.drain Migrate.land everyRank everyPair countRanks eachRank
 opened named s log at = stepSound named s log at

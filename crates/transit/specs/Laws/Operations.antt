@@ -1,9 +1,9 @@
 -- What the operations on the unread messages do, for the layers above: these do not open them, and cite these laws. Assumes nothing.
 use mathlib.Core.Path.{_≡_, refl}
-use mathlib.Core.Bool.{false}
+use mathlib.Core.Bool.{true, false}
 use mathlib.Core.List.{[], _∷_, _++_}
-use Prim.Native.Nat.{ℕ, _+_, _<_}
-use borrow.Author.Tests.{lt-ltb}
+use Prim.Native.Nat.{ℕ, _+_, _<_, _≤_}
+use borrow.Author.Tests.{lt-ltb, le-ltb}
 use Rattle.transit.specs.Message.{placeOrder}
 use Rattle.transit.specs.Unread.{
   Unread,
@@ -36,6 +36,11 @@ pub appends : (u : Unread) (a b : Rank) (p : Place) (v : ℕ) → u .count < lim
     }
 unfolding appended
 appends u a b p v room = rw (lt-ltb (u .count) limit room)
+
+-- where there is none, all is as it was
+pub full-stays : (u : Unread) (a b : Rank) (p : Place) (v : ℕ) → limit ≤ u .count → appended u a b p v ≡ record { full = true; unread = u }
+unfolding appended
+full-stays u a b p v full = rw (le-ltb (u .count) limit full)
 
 module _ (s : Selection) (u : Unread) where
   -- each selected message is at the place, and nothing else changes

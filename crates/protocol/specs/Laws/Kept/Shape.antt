@@ -3,10 +3,9 @@
 use mathlib.Core.Path.{_≡_}
 use mathlib.Core.List.{List}
 use Prim.Native.Nat.{ℕ}
-use lib.Dec.{ltb}
 use lib.ListN.{length, length-set}
-use Rattle.transit.specs.Laws.Operations.{relabels, relabels-first, removes}
-use Rattle.transit.specs.Unread.{Unread, AfterAppend, appended, limit, head, leave, removed}
+use Rattle.transit.specs.Laws.Operations.{appends, full-stays, relabels, relabels-first, removes}
+use Rattle.transit.specs.Unread.{Unread, appended, limit, head, leave, removed}
 use Rattle.transit.specs.declared.Found.{Found}
 use Rattle.transit.specs.declared.Found.the-variants.{First, Nothing}
 use Rattle.transit.specs.declared.Place.{Place}
@@ -14,7 +13,7 @@ use Rattle.transit.specs.declared.Rank.{Rank}
 use Rattle.transit.specs.declared.Selection.{Selection}
 use Rattle.transit.specs.declared.Selection.the-variants.{Between}
 use Rattle.protocol.specs.Connect.{call, part, connectBoth, withdraw}
-use Rattle.base.specs.Laws.Tests.{chosen}
+use Rattle.base.specs.Laws.Tests.{by-less, chosen}
 use Rattle.protocol.specs.Laws.Cases.{route-cases, drain-cases}
 use Rattle.base.specs.Laws.Stores.{long-set}
 use Rattle.transit.specs.Message.{placeOrder, pairOf, ranks, cells}
@@ -91,10 +90,9 @@ shape-with-unread u e f =
 -- there are as many counts sent after a send and after a take
 sends-long : (u : Unread) (a b : Rank) (p : Place) (v : ℕ) → length (u .sent) ≡ cells
     → length (appended u a b p v .unread .sent) ≡ cells
-unfolding appended
 sends-long u a b p v e =
-    chosen (λ (x : AfterAppend). length (x .unread .sent) ≡ cells) (ltb (u .count) limit) _ _
-    (λ h. long-set cells (u .sent) (pairOf a b) _ e) (λ h. e)
+    by-less (u .count) limit (λ room. rw (appends u a b p v room) (long-set cells (u .sent) (pairOf a b) _ e))
+    (λ full. rw (full-stays u a b p v full) e)
 
 takes-long : (q : Selection) (u : Unread) → length (u .sent) ≡ cells → length (removed q u .unread .sent) ≡ cells
 takes-long q u e = rw (removes q u) (left (head (placeOrder q (u .messages))))
