@@ -39,7 +39,7 @@ ran-more {s} {piece} {base} {steps} {state} {at} {answers} i r next e =
     }
 
 -- Before the first record nothing is run, and nothing is on the page.
-ran-none : (s : State) (piece : List ℕ) (base : ℕ) → sound s ≡ true → Ran s piece base 0 s 0 []
+pub ran-none : (s : State) (piece : List ℕ) (base : ℕ) → sound s ≡ true → Ran s piece base 0 s 0 []
 unfolding wholes
 ran-none s piece base ok = record { came = refl; counted = refl; stays = ok }
 

@@ -1,10 +1,13 @@
 -- `print_turn::turn` meets its contract: by what is next, as the laws of a turn have it. Assumes nothing.
+use mathlib.Core.List.{[]}
 use mathlib.Core.Logic.{⊎-elim}
 use mathlib.Core.Path.{_≡_, refl, sym, _∙_}
 use native.Mathlib.Omega.{arith}
 use borrow.Author.Needs.{needs}
 use lib.ListN.{length, take}
 use lib.Seq.{length-take-le}
+use Rattle.desk.specs.Desk.{deskOf}
+use Rattle.print_piece.specs.Laws.Ran.{ran-none}
 use Rattle.print_turn.specs.Laws.Turn.{turn-again, turn-on, turn-ends}
 use Rattle.print_turn.specs.declared.Next.the-variants.{End}
 use Rattle.print_turn.proofs.turn.Statement.{statement}
@@ -17,11 +20,22 @@ long c = length-take-le (c .args .held) (c .args .buffer .now) (c .pre .1 .0)
 returns : tie.Need-returns
 returns c =
     let start = c .before .before .before in
-    let desk = start .pre .0 in (
-      desk,
+    let args = start .args in
+    let desk = deskOf (args .slots .now) (args .contents .now) (args .roster .now) in
+    let held = take (args .held) (args .buffer .now) in (
+      start .pre .0,
       record {
-        shows = λ ok. record { stays = ok; prints = λ more may. refl };
-        because = c .if1 .taken;
+        shows = λ ok.
+        record {
+          steps = 0;
+          at = 0;
+          answers = [];
+          ran = ran-none desk held (args .base) ok;
+          further = omega arith;
+          rest = refl;
+          shown = refl;
+        };
+        because = (c .if1 .taken, refl, refl);
         exact = refl;
         holds = omega arith;
         fits = omega arith;

@@ -3,9 +3,9 @@
 use mathlib.Core.Bool.{Bool, true, false}
 use mathlib.Core.List.{List, _++_, append-assoc, append-nil}
 use mathlib.Core.Path.{_≡_, refl, sym, _∙_}
-use Prim.Native.Nat.{ℕ, _≤_}
-use lib.ListN.{take, drop, take-append-drop}
-use lib.Seq.{take-take}
+use Prim.Native.Nat.{ℕ}
+use lib.ListN.{take}
+use Rattle.record.specs.Record.{decode}
 use Rattle.protocol.specs.Sound.{sound}
 use Rattle.broker.specs.State.{State, fresh}
 use Rattle.desk.specs.Look.{nameFor}
@@ -13,20 +13,21 @@ use Rattle.ordering.specs.Laws.Runs.{fresh-sound}
 use Rattle.print_run.specs.Laws.Pieces.{printed-is-left}
 use Rattle.print_run.specs.Laws.Text.{prints}
 use Rattle.print_run.specs.Printed.{printed, Prints}
-use Rattle.print_turn.specs.Course.{Course, Stands}
+use Rattle.print_turn.specs.Course.{Course}
 use Rattle.print_turn.specs.Course.Course.{begun, reads, turns}
-use Rattle.print_turn.specs.Turn.{MayFollow, leftBehind, Shows}
+use Rattle.print_turn.specs.Laws.Turn.{leftBehind, shows-prints}
+use Rattle.print_turn.specs.Turn.{MayFollow, Shows, Over}
 use Rattle.print_run.specs.Wholes.{left}
 use Rattle.print_turn.specs.declared.Next.{Next}
 use Rattle.print_turn.specs.declared.Next.the-variants.{Again, Read, End, TooLong}
 use Rattle.print_turn.specs.declared.Turned.{Turned}
 
 -- The state stays sound.
-course-sound :
+pub course-sound :
     {read written : List ℕ} {s : State} {base : ℕ} {held : List ℕ} {done : Bool} → Course read written s base held done → sound s ≡ true
 course-sound begun = fresh-sound
-course-sound (reads x bytes done) = course-sound x
-course-sound (turns x shows more) = shows .stays
+course-sound (reads x bytes) = course-sound x
+course-sound (turns x shows more) = shows .ran .stays
 
 -- Where a turn is not the last, what is left behind it is left to print.
 goes-on : (next : Next) (base : ℕ) (s : State) (log : List ℕ) → (next ≡ End → ⊥) → leftBehind next base s log ≡ left nameFor base s log
@@ -39,35 +40,17 @@ goes-on TooLong base s log go = refl
 course-prints : {read written : List ℕ} {s : State} {base : ℕ} {held : List ℕ} {done : Bool} → Course read written s base held done →
     (more : List ℕ) → MayFollow done more → written ++ left nameFor base s (held ++ more) ≡ printed nameFor fresh (read ++ more)
 course-prints begun more may = sym (printed-is-left nameFor fresh more fresh-sound)
-course-prints (reads {read = read} {held = held} x bytes done) more may =
+course-prints (reads {read = read} {held = held} x bytes) more may =
     rw (append-assoc held bytes more, append-assoc read bytes more) (course-prints x (bytes ++ more) (λ t. cc))
 course-prints (turns {written = written} x {state} {held'} {r} {page} shows go) more may =
-    rw (append-assoc written, ← goes-on (r .next) (r .base) state (held' ++ more) go, ← shows .prints more may)
+    rw (append-assoc written, ← goes-on (r .next) (r .base) state (held' ++ more) go,
+    ← shows-prints shows (λ e. absurd (go e)) more may)
     (course-prints x more may)
 
 -- With the last turn all that is written is the printed run of all that was read, and whatever follows is no part of it.
 pub course-ends : {read written : List ℕ} {s : State} {base : ℕ} {held : List ℕ} {done : Bool} → Course read written s base held done →
-    {state : State} {held' : List ℕ} {r : Turned} {page : List ℕ} → Shows s held base done state held' r page → r .next ≡ End →
-    (more : List ℕ) → MayFollow done more → Prints fresh (read ++ more) (written ++ take (r .used) page)
-course-ends {read} {s = s} {base} {held} x {r = r} {page} shows e more may =
-    let all : left nameFor base s (held ++ more) ≡ take (r .used) page = shows .prints more may ∙ rw (e, append-nil) in
+    {state : State} {held' : List ℕ} {r : Turned} {page : List ℕ} → Shows s held base state held' r page → r .next ≡ End →
+    Over done (decode held' 0) → (more : List ℕ) → MayFollow done more → Prints fresh (read ++ more) (written ++ take (r .used) page)
+course-ends {read} {s = s} {base} {held} x {r = r} {page} shows e over more may =
+    let all : left nameFor base s (held ++ more) ≡ take (r .used) page = shows-prints shows (λ _. over) more may ∙ rw (e, append-nil) in
     rw (← all, course-prints x more may) (prints fresh (read ++ more))
-
-module _ {s : State} {base : ℕ} {held : List ℕ} {done : Bool} (x : Stands s base held done) where
-  pub stands-sound : sound s ≡ true
-  stands-sound = course-sound (x .course)
-
-  -- A program takes a turn that is not the last.
-  pub stands-on : {state : State} {held' : List ℕ} {r : Turned} {page : List ℕ} → Shows s held base done state held' r page →
-      (r .next ≡ End → ⊥) → Stands state (r .base) held' done
-  stands-on {r = r} {page = page} shows go =
-      record { read = x .read; written = x .written ++ take (r .used) page; course = turns (x .course) shows go }
-
--- A program reads behind what its buffer holds.
-pub stands-filled : {s : State} {base : ℕ} (held : ℕ) (buffer : List ℕ) → Stands s base (take held buffer) false → (buffer' : List ℕ)
-    (now : ℕ) (done : Bool) → take held buffer' ≡ take held buffer → held ≤ now → Stands s base (take now buffer') done
-stands-filled held buffer x buffer' now done same more =
-    let bytes = drop held (take now buffer') in
-    let front : take held (take now buffer') ≡ take held buffer = take-take held now buffer' more ∙ same in
-    let all : take held buffer ++ bytes ≡ take now buffer' = rw front at (take-append-drop held (take now buffer')) in
-    rw (← all) (record { read = x .read ++ bytes; written = x .written; course = reads (x .course) bytes done })

@@ -1,6 +1,6 @@
 -- Laws of a turn: what stands at the front of the buffer behind a piece, and what the page shows, by what is next. Assumes nothing.
 use mathlib.Core.Bool.{Bool, true, false}
-use mathlib.Core.List.{List, _++_, append-nil}
+use mathlib.Core.List.{List, [], _++_, append-assoc, append-nil}
 use mathlib.Core.Path.{_≡_, refl, ap, sym, _∙_}
 use Prim.Native.Nat.{ℕ, _+_, _≤_, _<_}
 use native.Mathlib.Nat.{add-zero}
@@ -14,7 +14,6 @@ use Rattle.print_page.specs.Laws.Put.{shows}
 use Rattle.print_page.specs.Put.{Put}
 use Rattle.record.specs.Laws.Record.{kind-most}
 use Rattle.record.specs.Record.{isKind, bodies, bodyLength, decode}
-use Rattle.protocol.specs.Sound.{sound}
 use Rattle.broker.specs.State.{State}
 use Rattle.record.specs.declared.Decoded.{Decoded}
 use Rattle.record.specs.declared.Decoded.the-variants.{Whole, Unknown, Cut}
@@ -28,12 +27,12 @@ use Rattle.print_run.specs.Laws.Window.Seen.{seen-cut, seen-end}
 use Rattle.print_run.specs.Printed.{linesOf, lastLines, textOf}
 use Rattle.print_piece.specs.Ran.{Ran, RanSome, Stops}
 use Rattle.print_run.specs.Run.{Answered}
-use Rattle.print_turn.specs.Turn.{farthest, longest, nextOf, MayFollow, leftBehind, Because, Turns}
+use Rattle.print_turn.specs.Turn.{farthest, longest, nextOf, MayFollow, endBehind, Shows, Over, Because, Turns}
 use Rattle.print_run.specs.Wholes.{isWhole, closing, left}
 use Rattle.print_piece.specs.declared.Stop.{Stop}
 use Rattle.print_piece.specs.declared.Stop.the-variants.{PageFull, KindUnknown, RecordCut}
 use Rattle.print_turn.specs.declared.Next.{Next}
-use Rattle.print_turn.specs.declared.Next.the-variants.{Again, Read, End}
+use Rattle.print_turn.specs.declared.Next.the-variants.{Again, Read, End, TooLong}
 use Rattle.print_turn.specs.declared.Turned.{Turned}
 
 -- No kind's body is as long as the longest record.
@@ -76,23 +75,26 @@ module _
         let there = rw (add-zero at) at (decode-dropped (take held buffer) at (ran .inside) 0) in
         rw (rest .holds) (unmoved at (decode (drop at (take held buffer)) 0) (sym there ∙ e) none)
 
-    -- what was left to print, whatever follows
-    was-left : sound s ≡ true → (more : List ℕ) →
-        left nameFor base s (take held buffer ++ more) ≡ take used page ++ left nameFor (base + at) state (take k buffer' ++ more)
-    was-left ok more = rw (rest .holds, ran .shown) (piece-shows (ran .ran ok) more)
-
-    -- Whatever is next, nothing that was held is lost or moved.
+    -- Whatever is next, the state is that of the records that were run, and nothing that was held is lost or moved.
     turns :
         (next : Next) (done : Bool) (end : ℕ) (page' : List ℕ) →
         let r : Turned = record { held = k; base = base + at; used = end; next = next } in
-        (sound s ≡ true → (more : List ℕ) → MayFollow done more → left nameFor base s (take held buffer ++ more) ≡
-        take end page' ++ leftBehind next (base + at) state (take k buffer' ++ more)) →
+        take end page' ≡ linesOf (ran .answers) ++ endBehind next (base + at) state (take k buffer') →
         Because next base done (take k buffer') r → end ≤ length page' → length page' ≡ room →
         Turns s buffer held base done room state buffer' r page'
-    turns next done end page' prints because within long =
+    turns next done end page' shown because within long =
         let inside = length-take-le held buffer fits in
         record {
-          shows = λ ok. record { stays = ran .ran ok .stays; prints = prints ok };
+          shows = λ ok.
+          record {
+            steps = steps;
+            at = at;
+            answers = ran .answers;
+            ran = ran .ran ok;
+            further = refl;
+            rest = rest .holds;
+            shown = shown;
+          };
           because = because;
           exact = omega (arith, rest .counts, ran .inside);
           holds = omega (arith, rest .counts);
@@ -104,7 +106,7 @@ module _
     pub turn-again : (done : Bool) → room < used + endingRoom →
         Turns s buffer held base done room state buffer' (record { held = k; base = base + at; used = used; next = Again }) page
     turn-again done h =
-        turns Again done used page (λ ok more may. was-left ok more) (near, omega arith, omega (arith, ran .taken)) (ran .fits) (ran .keeps)
+        turns Again done used page (rw (ran .shown, append-nil)) (near, omega arith, omega (arith, ran .taken)) (ran .fits) (ran .keeps)
 
     -- By why the run of the piece stops, where the run is not over.
     pub turn-on : (stop : Stop) (done : Bool) → Stops stop (take held buffer) at used room → (nextOf stop done ≡ End → ⊥) →
@@ -115,30 +117,55 @@ module _
     turn-on RecordCut false h go =
         let cut = in-front h refl in
         let long = length-take-le k buffer' (omega (arith, rest .counts, rest .room)) in
-        turns Read false used page (λ ok more may. was-left ok more) (near, refl, cut, omega (arith, cut-is-short (take k buffer') cut))
+        turns Read false used page (rw (ran .shown, append-nil))
+        (near, refl, cut, omega (arith, cut-is-short (take k buffer') cut))
         (ran .fits) (ran .keeps)
 
-    -- The end of the run is put behind what the page shows, where nothing that may follow is a part of it.
+    -- The end of the run is put behind what the page shows.
     module _
         {text page' : List ℕ} {end : ℕ} (put : Put endingRoom page used text page' end) (behind : used + endingRoom ≤ length page)
         (says : text ≡ linesOf (closing (base + at) (take k buffer') 0) ++ lastLines state)
       where
-        over : (done : Bool) → isWhole (decode (take k buffer') 0) ≡ false →
-            ((more : List ℕ) → MayFollow done more →
-            left nameFor (base + at) state (take k buffer' ++ more) ≡ left nameFor (base + at) state (take k buffer')) →
-            (done ≡ false → decode (take k buffer') 0 ≡ Unknown) →
+        over : (done : Bool) → Over done (decode (take k buffer') 0) →
             Turns s buffer held base done room state buffer' (record { held = k; base = base + at; used = end; next = End }) page'
-        over done none follows why =
-            turns End done end page'
-            (λ ok more may. was-left ok more ∙
-            rw (follows more may, left-over nameFor (base + at) state (take k buffer') none, ← says, shows put behind, append-nil))
-            (near, why) (omega (arith, put .within, put .room)) (put .room ∙ ran .keeps)
+        over done why =
+            turns End done end page' (rw (shows put behind, ran .shown, says)) (near, why) (omega (arith, put .within, put .room))
+            (put .room ∙ ran .keeps)
 
         pub turn-ends : (stop : Stop) (done : Bool) → Stops stop (take held buffer) at used room → nextOf stop done ≡ End →
             Turns s buffer held base done room state buffer' (record { held = k; base = base + at; used = end; next = End }) page'
         turn-ends PageFull done h e = let z : _≡_ {A = ℕ} 0 1 = cc in absurd (omega arith)
-        turn-ends KindUnknown done h e =
-            let unknown = in-front h refl in
-            over done (ap isWhole unknown) (λ more may. unknown-ends nameFor (base + at) state (take k buffer') more unknown) (λ _. unknown)
-        turn-ends RecordCut true h e = over true (ap isWhole (in-front h refl)) (λ more may. rw (may refl, append-nil)) (λ t. cc)
+        turn-ends KindUnknown done h e = let unknown = in-front h refl in over done (ap isWhole unknown, λ _. unknown)
+        turn-ends RecordCut true h e = over true (ap isWhole (in-front h refl), λ t. cc)
         turn-ends RecordCut false h e = let z : _≡_ {A = ℕ} 0 1 = cc in absurd (omega arith)
+
+-- what is left to print behind a turn, of a log that is left to run
+abbrev pub leftBehind : Next → ℕ → State → List ℕ → List ℕ
+leftBehind Again base s log = left nameFor base s log
+leftBehind Read base s log = left nameFor base s log
+leftBehind End base s log = []
+leftBehind TooLong base s log = left nameFor base s log
+
+-- Where a run is over, nothing that may follow is a part of it.
+nothing-follows : (base : ℕ) (s : State) (held : List ℕ) (done : Bool) → Over done (decode held 0) → (more : List ℕ) →
+    MayFollow done more → left nameFor base s (held ++ more) ≡ linesOf (closing base held 0) ++ lastLines s
+nothing-follows base s held true over more may = rw (may refl, append-nil) (left-over nameFor base s held (over .0))
+nothing-follows base s held false over more may =
+    unknown-ends nameFor base s held more (over .1 refl) ∙ left-over nameFor base s held (over .0)
+
+-- What was left to print, whatever follows, is what the page shows and then what is left behind the turn.
+module _ {s : State} {held : List ℕ} {base : ℕ} {state : State} {held' : List ℕ} {r : Turned} {page : List ℕ} {done : Bool}
+    (x : Shows s held base state held' r page) (over : r .next ≡ End → Over done (decode held' 0)) (more : List ℕ)
+    (may : MayFollow done more) where
+  behind : (next : Next) → r .next ≡ next →
+      left nameFor (r .base) state (held' ++ more) ≡
+      endBehind next (r .base) state held' ++ leftBehind next (r .base) state (held' ++ more)
+  behind Again e = refl
+  behind Read e = refl
+  behind End e = rw append-nil (nothing-follows (r .base) state held' done (over e) more may)
+  behind TooLong e = refl
+
+  pub shows-prints : left nameFor base s (held ++ more) ≡ take (r .used) page ++ leftBehind (r .next) (r .base) state (held' ++ more)
+  shows-prints =
+      piece-shows (x .ran) more ∙
+      rw (← x .further, ← x .rest, x .shown, append-assoc (linesOf (x .answers))) (ap (λ l. linesOf (x .answers) ++ l) (behind (r .next) refl))
