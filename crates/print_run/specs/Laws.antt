@@ -6,3 +6,4 @@ pub mod Ending
 pub mod Steps
 pub mod Text
 pub mod Pieces
+pub mod Readings

@@ -1,5 +1,5 @@
 -- Laws of the definitions.
 pub mod Buffer
 pub mod Course
-pub mod Ordered
+pub mod Runs
 pub mod Turn

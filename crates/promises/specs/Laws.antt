@@ -2,3 +2,4 @@
 pub mod Entries
 pub mod Rows
 pub mod Shown
+pub mod Turn

@@ -1,11 +1,11 @@
 -- The page of promises: all that is promised of the desk, in full, to be read from top to bottom. Each statement stands under the sentence
 -- of paper 01 or 02 that it is for, with all that it speaks of in sight; its proof cites what is proved below. What the entries that users
 -- call promise stands in src/lib.rt in the same way. Assumes nothing.
-use mathlib.Core.Bool.{true, false, not, _&&_}
+use mathlib.Core.Bool.{Bool, true, false, not, _&&_}
 use mathlib.Core.List.{List, [], _∷_, _++_, map}
 use mathlib.Core.Logic.{_⊎_}
 use mathlib.Core.Option.{none, some}
-use mathlib.Core.Path.{_≡_, refl}
+use mathlib.Core.Path.{_≡_, refl, sym, ap, _∙_}
 use Prim.Native.String.{String}
 use Prim.Native.Nat.{ℕ, _+_, _*_, _/_, _%_, _^_, _<_, _≤_}
 use lib.Dec.{leb}
@@ -19,6 +19,10 @@ use Rattle.base.specs.Lists.{every, select, upFrom}
 use Rattle.broker.specs.Names
 use Rattle.broker.specs.State.{State, fresh, status, request, drawnOn, messages}
 use Rattle.desk.specs.Look.{nameFor}
+use Rattle.generator.specs.Answer.{makes}
+use Rattle.generator.specs.Laws.Answer.{equal-seeds, in-two-parts}
+use Rattle.generator.specs.Laws.Read.{made-holds}
+use Rattle.generator.specs.Records.{Holds}
 use Rattle.generator_draw.specs.Draw.{words}
 use Rattle.generator_record.specs.MadeUp as MadeUp
 use Rattle.ordering.specs.Claim.{
@@ -43,12 +47,20 @@ use Rattle.ordering.specs.Laws.Open.{everyMoveLanded, no-move-open-by-the-list}
 use Rattle.ordering.specs.Laws.Ordering.{ordering}
 use Rattle.ordering.specs.Laws.Runs.{fresh-sound, sound-after}
 use Rattle.print_page.specs.Ascii.{asciiLines}
-use Rattle.print_run.specs.Laws.Pieces.{printed-in-pieces}
+use Rattle.print_run.specs.Laws.Pieces.{run-in-pieces, printed-in-pieces}
+use Rattle.print_run.specs.Laws.Readings.{readings, readings-run}
+use Rattle.print_run.specs.Laws.Steps.{same-state}
 use Rattle.print_run.specs.Listing.{listing-prints}
 use Rattle.print_run.specs.Pieces.{Turn, allBytes, inPieces}
 use Rattle.print_run.specs.Printed.{printed, textOf}
-use Rattle.print_run.specs.Run.{Naming}
-use Rattle.print_turn.specs.Turn.{bufferRoom, farthest, longest}
+use Rattle.print_run.specs.Run.{Answered, Came, Naming, runLog}
+use Rattle.print_run.specs.Wholes.{isWhole}
+use Rattle.print_turn.specs.Course.{Course, RunSoFar}
+use Rattle.print_turn.specs.Laws.Course.{course-ends}
+use Rattle.print_turn.specs.Laws.Runs.{turn-runs, course-runs}
+use Rattle.print_turn.specs.Turn.{bufferRoom, farthest, longest, Shows}
+use Rattle.print_turn.specs.declared.Next.the-variants.{End}
+use Rattle.print_turn.specs.declared.Turned.{Turned}
 use Rattle.protocol.specs.Checks.{Check, checks, refusal}
 use Rattle.protocol.specs.Laws.Checks.{given-is-first, first-is-given}
 use Rattle.protocol.specs.Laws.Restart.{
@@ -69,7 +81,7 @@ use Rattle.record.specs.Laws.Record.{at-end, no-kind, cut-short, whole, value-b
 use Rattle.record.specs.Record.{isKind, bodyLength, bodyAt, recordOf, decode, valueOf, bytesOf}
 use Rattle.record.specs.declared.Decoded.the-variants.{Whole, Unknown, Cut}
 use Rattle.record.specs.declared.Record.{Record}
-use Rattle.record.specs.declared.Record.the-variants.{Move}
+use Rattle.record.specs.declared.Record.the-variants.{Move, Look}
 use Rattle.transit.specs.Message.{ranks, placeOrder}
 use Rattle.transit.specs.Unread.{limit, mostSent}
 use Rattle.transit.specs.declared.Message.{Message}
@@ -200,51 +212,57 @@ rows-of-the-table = rows-in-order
 pub fresh-desk-is-sound : sound fresh ≡ true
 fresh-desk-is-sound = fresh-sound
 
--- Demand 3, over every list of steps from a fresh desk: each reads any log at any position, and any rank may be named by its looks.
-module _ (xs : List Reading) where
-  pub stays-sound-over-a-list : sound (after fresh xs) ≡ true
-  stays-sound-over-a-list = sound-after xs fresh fresh-sound
+-- Demand 3.
 
+-- What is claimed of a list of steps from a fresh desk and of the state that it leaves.
+pub record OrderingClaim (xs : List Reading) (end : State) : Type 0 where
   -- "each pair's taken values then unread values are exactly its sent values in order"
-  pub taken-then-unread-is-sent : (a b : Rank) → a .0 < 16 → b .0 < 16 →
-      taken a b (accepted fresh xs) ++ unread a b (after fresh xs) ≡ sent a b (accepted fresh xs)
-  taken-then-unread-is-sent = ordering .first-half xs
-
+  pub taken-then-unread : (a b : Rank) → a .0 < 16 → b .0 < 16 →
+      taken a b (accepted fresh xs) ++ unread a b end ≡ sent a b (accepted fresh xs)
   -- "where no move is open, an equivalent list with unbroken moves exists": it is carried out as it stands; "The second list has the first's
   -- accepted starts, moves, sends, takes and ends with the same kinds and bodies, in one order over all five"; each pair has taken the same
   -- and has the same unread; "Standing, and host and number of the current end .. are compared in the states that the two lists leave"
-  pub second-list : noMoveOpen (after fresh xs) ≡ true →
+  pub second-list : noMoveOpen end ≡ true →
       (list : List Reading) ×
       (areBytes xs ≡ true → areBytes list ≡ true) ×
       (everyAccepted fresh list ≡ true) ×
       (unbroken none (records (accepted fresh list)) ≡ true) ×
       (fiveKinds (accepted fresh list) ≡ fiveKinds (accepted fresh xs)) ×
       ((a b : Rank) → taken a b (accepted fresh list) ≡ taken a b (accepted fresh xs)) ×
-      ((a b : Rank) → a .0 < 16 → b .0 < 16 → unread a b (after fresh list) ≡ unread a b (after fresh xs)) ×
-      ((r : Rank) → r .0 < 16 → status (after fresh list) r ≡ status (after fresh xs) r)
-  second-list h =
-      let l = ordering .second-half xs h in
-      (l .list, l .bytes, l .all-accepted, l .moves-unbroken, l .same-steps, l .same-taken, l .same-unread, l .same-status)
+      ((a b : Rank) → a .0 < 16 → b .0 < 16 → unread a b (after fresh list) ≡ unread a b end) ×
+      ((r : Rank) → r .0 < 16 → status (after fresh list) r ≡ status end r)
+  -- Paper 02, change 4: "the numbers taken by a pair are 1, 2, 3 without a gap as far as taken"; with those of the unread behind them they
+  -- are 1 to "the count sent", which is that of the accepted sends
+  pub running-numbers : (a b : Rank) → a .0 < 16 → b .0 < 16 →
+      let numbers-taken = map (λ (e : Entry). e .v3) (select (isTake a b) (accepted fresh xs)) in
+      let numbers-unread = map (λ (m : Message). m .sequence) (placeOrder (Between a b) (messages end)) in
+      (numbers-taken ≡ upFrom 1 (length (taken a b (accepted fresh xs)))) ×
+      (numbers-taken ++ numbers-unread ≡ upFrom 1 (sentBetween a b end)) ×
+      (sentBetween a b end ≡ length (sent a b (accepted fresh xs)))
+
+-- Over every list of steps: each reads any log at any position, and any rank may be named by its looks.
+module _ (xs : List Reading) where
+  pub ordering-claim : OrderingClaim xs (after fresh xs)
+  ordering-claim =
+      record {
+        taken-then-unread = ordering .first-half xs;
+        second-list =
+            λ h.
+            let l = ordering .second-half xs h in
+            (l .list, l .bytes, l .all-accepted, l .moves-unbroken, l .same-steps, l .same-taken, l .same-unread, l .same-status);
+        running-numbers = λ a b ha hb. let n = numbered xs a b ha hb in (n .without-a-gap, n .to-the-count-sent, n .sends-counted);
+      }
 
   -- "A move is open from its accepted 06 until its accepted 09"
   pub open-moves-by-the-list : noMoveOpen (after fresh xs) ≡ everyMoveLanded (records (accepted fresh xs))
   open-moves-by-the-list = no-move-open-by-the-list xs
 
-  -- Paper 02, change 4: "the numbers taken by a pair are 1, 2, 3 without a gap as far as taken"; with those of the unread behind them they
-  -- are 1 to "the count sent", which is that of the accepted sends
-  pub running-numbers : (a b : Rank) → a .0 < 16 → b .0 < 16 →
-      let es = accepted fresh xs in
-      let end = after fresh xs in
-      let numbers-taken = map (λ (e : Entry). e .v3) (select (isTake a b) es) in
-      let numbers-unread = map (λ (m : Message). m .sequence) (placeOrder (Between a b) (messages end)) in
-      (numbers-taken ≡ upFrom 1 (length (taken a b es))) ×
-      (numbers-taken ++ numbers-unread ≡ upFrom 1 (sentBetween a b end)) ×
-      (sentBetween a b end ≡ length (sent a b es))
-  running-numbers a b ha hb = let n = numbered xs a b ha hb in (n .without-a-gap, n .to-the-count-sent, n .sends-counted)
-
   -- Paper 02, change 3: "The unread count of a pair never passes 1,024."
   pub unread-of-a-pair : (a b : Rank) → unreadBetween a b (after fresh xs) ≤ 1024
   unread-of-a-pair = count-never-passes xs
+
+  pub stays-sound-over-a-list : sound (after fresh xs) ≡ true
+  stays-sound-over-a-list = sound-after xs fresh fresh-sound
 
 -- Paper 02, change 2: "A move to the rank's present host is accepted and draws a number like any other."
 pub restart : (s : State) (r : Rank) (v : Vmid) → sound s ≡ true → r .0 < 16 → status s r ≡ Running v →
@@ -412,3 +430,73 @@ listing-prints-so = listing-prints
 pub printed-in-any-pieces : (named : Naming) (ts : List Turn) →
     textOf (inPieces named 0 fresh [] ts) ≡ printed named fresh (allBytes ts)
 printed-in-any-pieces named ts = printed-in-pieces named ts fresh fresh-sound
+
+-- The steps that a run takes are a list of steps, and it leaves what the list leaves.
+pub run-is-a-list-of-steps : (named : Naming) (n : ℕ) (s : State) (log : List ℕ) (at : ℕ) →
+    (after s (readings named n s log at) ≡ runLog named n s log at .state) ×
+    (map (λ (x : Reading). x .at) (readings named n s log at) ≡ map (λ (a : Answered). a .at) (runLog named n s log at .answers))
+run-is-a-list-of-steps = readings-run
+
+-- Demand 3 of what a run leaves whose log comes in pieces of any lengths.
+pub ordering-claim-in-any-pieces : (named : Naming) (ts : List Turn) →
+    OrderingClaim (readings named (length (allBytes ts)) fresh (allBytes ts) 0) (inPieces named 0 fresh [] ts .state)
+ordering-claim-in-any-pieces named ts =
+    let log = allBytes ts in
+    let same = readings-run named (length log) fresh log 0 .0 ∙ ap (λ (c : Came). c .state) (sym (run-in-pieces named ts fresh fresh-sound)) in
+    rw same at (ordering-claim (readings named (length log) fresh log 0))
+
+-- Demand 3 of what so many whole records of a log leave.
+leaves : {read : List ℕ} {s : State} {base : ℕ} {held : List ℕ} → RunSoFar read s base held →
+    (n : ℕ) × (after fresh (readings nameFor n fresh read 0) ≡ s) × (held ≡ drop base read) ×
+    OrderingClaim (readings nameFor n fresh read 0) s
+leaves {read} {s} x =
+    let xs = readings nameFor (x .steps) fresh read 0 in
+    let same : after fresh xs ≡ s =
+    readings-run nameFor (x .steps) fresh read 0 .0 ∙ same-state nameFor read (x .steps) fresh 0 fresh-sound ∙
+    ap (λ (c : Came). c .state) (sym (x .ran .came)) in
+    (x .steps, same, x .rest, rw same at (ordering-claim xs))
+
+-- What a program reads and writes that takes turns from the fresh state on: it reads behind what is held, an empty read is the input's end and
+-- nothing else is, and it writes what each turn puts on the page.
+module _ {read written : List ℕ} {s : State} {base : ℕ} {held : List ℕ} {done : Bool} (course : Course read written s base held done) where
+  -- After any number of turns the state is the one that a list of steps of what was read leaves, what is held is the rest of it, and demand 3
+  -- holds of it.
+  pub program-keeps-the-order : (n : ℕ) × (after fresh (readings nameFor n fresh read 0) ≡ s) × (held ≡ drop base read) ×
+      OrderingClaim (readings nameFor n fresh read 0) s
+  program-keeps-the-order = leaves (course-runs course)
+
+  module _ {state : State} {held' : List ℕ} {r : Turned} {page : List ℕ} (shows : Shows s held base state held' r page) where
+    -- The same behind one turn more, and so behind the last.
+    pub last-turn-keeps-the-order : (n : ℕ) × (after fresh (readings nameFor n fresh read 0) ≡ state) × (held' ≡ drop (r .base) read) ×
+        OrderingClaim (readings nameFor n fresh read 0) state
+    last-turn-keeps-the-order = leaves (turn-runs (course-runs course) shows)
+
+    -- With the last turn all that is written is the printed run of all that was read, whatever follows it; "look's rank is tested for being
+    -- allowed".
+    pub program-prints-the-run : r .next ≡ End → isWhole (decode held' 0) ≡ false → (done ≡ false → decode held' 0 ≡ Unknown) →
+        (more : List ℕ) → (done ≡ true → more ≡ []) →
+        (named : Naming) ×
+        ((t : State) (q : Rank) → refusal t (Look q) ≡ none → 0 < unreadBetween (named t (Look q)) q t) ×
+        (written ++ ListN.take (r .used) page ≡ printed named fresh (read ++ more))
+    program-prints-the-run e whole unknown more may =
+        let p = course-ends course shows e (whole, unknown) more may in
+        (p .named, λ t q passes. rw passes at (p .fits t (Look q)), p .same)
+
+-- Paper 02, change 1.
+
+-- "a log of n records": each whole, of a known kind, with ranks and hosts in range, and behind them the log's end
+pub made-up-log-is-its-records : (n word : ℕ) → Holds (MadeUp.madeLog n word) n 0
+made-up-log-is-its-records = made-holds
+
+-- "The panel makers exchange faults by seed": what is written depends on the seed and the count alone.
+pub equal-seeds-give-equal-logs : (word n : ℕ) (one other : List ℕ) → makes word n one .number ≡ 0 → makes word n other .number ≡ 0 →
+    ListN.take (makes word n one .bytes) (makes word n one .buffer) ≡ ListN.take (makes word n other .bytes) (makes word n other .buffer)
+equal-seeds-give-equal-logs = equal-seeds
+
+-- A log that is made in two parts, the second from the word that the first left, is the log that is made at once.
+pub made-up-log-goes-on : (word n m : ℕ) (whole first second : List ℕ) → makes word (n + m) whole .number ≡ 0 →
+    makes word n first .number ≡ 0 → makes (makes word n first .word) m second .number ≡ 0 →
+    ListN.take (makes word (n + m) whole .bytes) (makes word (n + m) whole .buffer) ≡
+    ListN.take (makes word n first .bytes) (makes word n first .buffer) ++
+    ListN.take (makes (makes word n first .word) m second .bytes) (makes (makes word n first .word) m second .buffer)
+made-up-log-goes-on = in-two-parts

@@ -20,7 +20,7 @@ ghost use Rattle.print_run.specs.Run.{Answered};
 ghost use Rattle.print_run.specs.Wholes.{wholes};
 ghost use Rattle.protocol.specs.Sound.{sound};
 ghost use Rattle.protocol.specs.Step.{Stepped};
-ghost use Rattle.promises.specs.Entries.{ExactStep, EachAnswer, Makes};
+ghost use Rattle.promises.specs.Entries.{ExactStep, EachAnswer, Makes, TurnOfARun};
 ghost use Rattle.record.specs.Record.{decode};
 ghost use Rattle.record.specs.declared.Decoded.the-variants.{Unknown, Cut};
 ghost use Rattle.roster.specs.Roster.{Whole};
@@ -33,6 +33,8 @@ use generator::go_on;
 use generator::made_up;
 use print_piece::Stopped;
 use print_piece::run_piece;
+use print_turn::Turned;
+use print_turn::turn;
 use roster::Roster;
 use soundness::is_sound;
 use steps::Outcome;
@@ -184,6 +186,30 @@ pub fn piece_of_a_run(
     ensures record_cut { λ r. ⌜ (r .stop ≡ RecordCut → decode (now (piece .entry)) (r .at) ≡ Cut) ⌝ }
 {
     run_piece(piece, base, page, slots, contents, roster)
+}
+
+// A turn of a program that reads its input through a buffer of at most 65,536 bytes, on a page that has room for the end of a run.
+pub fn turn_of_a_run(
+    buffer: &mut [u8],
+    held: usize,
+    base: u64,
+    done: bool,
+    page: &mut [u8],
+    slots: &mut Slots,
+    contents: &mut Contents,
+    roster: &mut Roster,
+) -> Turned
+    requires { ⌜ Desk (now slots) (now contents) (now roster) ⌝ }
+    requires { ⌜ (held ≤ length (now buffer)) × (length (now buffer) ≤ 65536) × (33648 ≤ length (now page)) ⌝ }
+    ensures desk { λ _. ⌜ Desk (now (slots .exit)) (now (contents .exit)) (now (roster .exit)) ⌝ }
+    ensures turns { λ r. ⌜ TurnOfARun (deskOf (now (slots .entry)) (now (contents .entry)) (now (roster .entry)))
+        (take held (now (buffer .entry))) base done (deskOf (now (slots .exit)) (now (contents .exit)) (now (roster .exit)))
+        (take (r .held) (now (buffer .exit))) r (now (page .exit)) ⌝ }
+    ensures exact { λ r. ⌜ (r .base + r .held ≡ base + held) × (r .held ≤ held) × (r .used ≤ length (now (page .exit))) ⌝ }
+    ensures room { λ _. ⌜ (length (now (buffer .exit)) ≡ length (now (buffer .entry))) ×
+        (length (now (page .exit)) ≡ length (now (page .entry))) ⌝ }
+{
+    turn(buffer, held, base, done, page, slots, contents, roster)
 }
 
 // Paper 02, change 1: "Write a log of n records into a lent buffer .. Checks: 26 for seed zero, then 27 for a buffer shorter than 7 times n

@@ -1,5 +1,5 @@
--- What the turns of a program leave is what a run of whole records leaves: the ordering claim, and that of the running numbers, hold of it
--- after any number of turns, and behind the last. Paper 01, "Lists of steps"; paper 02, change 4. Assumes nothing.
+-- What the turns of a program leave is what a run of whole records leaves, after any number of turns and behind the last. Paper 01, "The
+-- printed run". Assumes nothing.
 use mathlib.Core.Bool.{Bool}
 use mathlib.Core.List.{List, [], _++_, append-nil}
 use mathlib.Core.Path.{_≡_, refl, ap, sym, _∙_}
@@ -11,7 +11,6 @@ use lib.Seq.{drop-append-le, drop-drop}
 use Rattle.broker.specs.State.{State, fresh}
 use Rattle.desk.specs.Look.{nameFor}
 use Rattle.ordering.specs.Laws.Runs.{fresh-sound}
-use Rattle.print_piece.specs.Laws.Ordering.{Ordered, ran-ordered}
 use Rattle.print_piece.specs.Laws.Ran.{ran-none, ran-on}
 use Rattle.print_piece.specs.Ran.{Ran}
 use Rattle.print_run.specs.Laws.Wholes.{run-within}
@@ -57,16 +56,3 @@ pub course-runs : {read written : List ℕ} {s : State} {base : ℕ} {held : Lis
 course-runs begun = record { steps = 0; answers = []; ran = ran-none fresh [] 0 fresh-sound; rest = refl }
 course-runs (reads x bytes) = more-read (course-runs x) bytes
 course-runs (turns x shows go) = turn-runs (course-runs x) shows
-
--- So both halves of the ordering claim, and the running numbers, hold of what the program's turns leave.
-pub course-ordered : {read written : List ℕ} {s : State} {base : ℕ} {held : List ℕ} {done : Bool} →
-    (x : Course read written s base held done) → Ordered nameFor (course-runs x .steps) read s
-course-ordered x = ran-ordered (course-runs x .ran)
-
--- They hold of what any further turn leaves, and so of what the last turn leaves.
-pub course-ends-ordered : {read written : List ℕ} {s : State} {base : ℕ} {held : List ℕ} {done : Bool} →
-    (x : Course read written s base held done) →
-    {state : State} {held' : List ℕ} {r : Turned} {page : List ℕ} → (shows : Shows s held base state held' r page) →
-    Ordered nameFor (course-runs x .steps + shows .steps) read state
-unfolding turn-runs
-course-ends-ordered x shows = ran-ordered (turn-runs (course-runs x) shows .ran)
