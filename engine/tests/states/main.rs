@@ -83,12 +83,11 @@ fn no_two_states_are_the_same() {
 #[test]
 fn what_is_written_from_the_list_is_current() {
     let states = states();
-    let printed: String = states
-        .iter()
-        .map(|listed| format!("{} {}\n", listed.name, listed.verdict()))
-        .collect();
     let mut files = theorems::files(&states);
-    files.push(("crates/test_spoiled/stdout".to_string(), printed));
+    files.push((
+        "crates/test_spoiled/stdout".to_string(),
+        list::printed(&states),
+    ));
     for (file, text) in files {
         let path = format!("{ROOT}/{file}");
         if std::env::var_os("WRITE_STATES").is_some() {
