@@ -1,9 +1,13 @@
 //! The list of sound and unsound states, `crates/test_spoiled/stdin`: the second
 //! engine answers every state of it, and the theorems of `crates/test_worked` and
-//! the expected output of the program `test_spoiled` are written from it.
+//! the expected output of the program `test_spoiled` are written from it. The
+//! engine and the program answer its states renumbered as well.
 
 mod built;
 mod list;
+#[path = "../shared/proved_program.rs"]
+mod proved_program;
+mod renumbered;
 mod theorems;
 
 use engine::{broken_clauses, is_sound, step, Clause, Outcome, Refusal};
