@@ -4,6 +4,7 @@
 //! engine and the program answer its states renumbered as well.
 
 mod built;
+mod ends;
 mod list;
 #[path = "../shared/proved_program.rs"]
 mod proved_program;
