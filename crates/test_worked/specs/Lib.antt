@@ -1,4 +1,4 @@
--- The states of the list that `crates/test_spoiled` reads, and of each the theorem that it is sound or unsound.
+-- The states of the list that `crates/test_spoiled` reads, but for its last section, and of each the theorem that it is sound or unsound.
 pub mod Words
 pub mod Unsound
 pub mod Whole

@@ -41,6 +41,58 @@ pub receiver-sixteen-is-unsound : sound receiver-sixteen ≡ false
 unfolding openedMessages
 receiver-sixteen-is-unsound = messages-unsound receiver-sixteen refl
 
+-- "Ranks .. are in range"
+abbrev pub sender-sixteen-to-the-first-rank : State
+sender-sixteen-to-the-first-rank = changed everything (message 16 0 2 60 ∷ [])
+
+pub sender-sixteen-to-the-first-rank-is-unsound : sound sender-sixteen-to-the-first-rank ≡ false
+unfolding openedMessages
+sender-sixteen-to-the-first-rank-is-unsound = messages-unsound sender-sixteen-to-the-first-rank refl
+
+-- "Ranks .. are in range"
+abbrev pub sender-sixteen-to-the-last-rank : State
+sender-sixteen-to-the-last-rank = changed everything (drawn 7 1 ∷ running 15 7 1 ∷ tables 15 7 1 ∷ message 16 15 2 60 ∷ [])
+
+pub sender-sixteen-to-the-last-rank-is-unsound : sound sender-sixteen-to-the-last-rank ≡ false
+unfolding openedMessages
+sender-sixteen-to-the-last-rank-is-unsound = messages-unsound sender-sixteen-to-the-last-rank refl
+
+-- "Ranks .. are in range"
+abbrev pub receiver-sixteen-from-the-first-rank : State
+receiver-sixteen-from-the-first-rank = changed everything (message 0 16 2 60 ∷ [])
+
+pub receiver-sixteen-from-the-first-rank-is-unsound : sound receiver-sixteen-from-the-first-rank ≡ false
+unfolding openedMessages
+receiver-sixteen-from-the-first-rank-is-unsound = messages-unsound receiver-sixteen-from-the-first-rank refl
+
+-- "Ranks .. are in range"
+abbrev pub receiver-sixteen-from-the-last-rank : State
+receiver-sixteen-from-the-last-rank = changed everything (drawn 7 1 ∷ running 15 7 1 ∷ tables 15 7 1 ∷ message 15 16 2 60 ∷ [])
+
+pub receiver-sixteen-from-the-last-rank-is-unsound : sound receiver-sixteen-from-the-last-rank ≡ false
+unfolding openedMessages
+receiver-sixteen-from-the-last-rank-is-unsound = messages-unsound receiver-sixteen-from-the-last-rank refl
+
+-- "Ranks .. are in range"
+abbrev pub sender-sixteen-before-another : State
+sender-sixteen-before-another =
+    changed everything
+    (fresh ∷ drawn 0 2 ∷ running 0 0 1 ∷ tables 0 0 1 ∷ running 1 0 2 ∷ tables 1 0 2 ∷ message 16 1 2 60 ∷ message 0 1 2 61 ∷ [])
+
+pub sender-sixteen-before-another-is-unsound : sound sender-sixteen-before-another ≡ false
+unfolding openedMessages
+sender-sixteen-before-another-is-unsound = messages-unsound sender-sixteen-before-another refl
+
+-- "Ranks .. are in range"
+abbrev pub receiver-sixteen-before-another : State
+receiver-sixteen-before-another =
+    changed everything
+    (fresh ∷ drawn 0 2 ∷ running 0 0 1 ∷ tables 0 0 1 ∷ running 1 0 2 ∷ tables 1 0 2 ∷ message 0 16 2 60 ∷ message 0 1 2 61 ∷ [])
+
+pub receiver-sixteen-before-another-is-unsound : sound receiver-sixteen-before-another ≡ false
+unfolding openedMessages
+receiver-sixteen-before-another-is-unsound = messages-unsound receiver-sixteen-before-another refl
+
 -- "Nobody has a .. message with itself."
 abbrev pub message-to-itself : State
 message-to-itself = changed everything (message 3 3 2 60 ∷ [])
@@ -64,6 +116,24 @@ first-message-to-itself = changed everything (fresh ∷ drawn 0 2 ∷ running 0 
 pub first-message-to-itself-is-unsound : sound first-message-to-itself ≡ false
 unfolding openedMessages
 first-message-to-itself-is-unsound = messages-unsound first-message-to-itself refl
+
+-- "Nobody has a .. message with itself."
+abbrev pub message-of-the-last-rank-to-itself : State
+message-of-the-last-rank-to-itself = changed everything (drawn 7 1 ∷ running 15 7 1 ∷ tables 15 7 1 ∷ message 15 15 2 60 ∷ [])
+
+pub message-of-the-last-rank-to-itself-is-unsound : sound message-of-the-last-rank-to-itself ≡ false
+unfolding openedMessages
+message-of-the-last-rank-to-itself-is-unsound = messages-unsound message-of-the-last-rank-to-itself refl
+
+-- "Nobody has a .. message with itself."
+abbrev pub message-to-itself-before-another : State
+message-to-itself-before-another =
+    changed everything
+    (fresh ∷ drawn 0 2 ∷ running 0 0 1 ∷ tables 0 0 1 ∷ running 1 0 2 ∷ tables 1 0 2 ∷ message 1 1 2 60 ∷ message 0 1 2 61 ∷ [])
+
+pub message-to-itself-before-another-is-unsound : sound message-to-itself-before-another ≡ false
+unfolding openedMessages
+message-to-itself-before-another-is-unsound = messages-unsound message-to-itself-before-another refl
 
 -- "At most 1,024 messages stand."
 abbrev pub messages-up-to-the-limit : State
@@ -135,6 +205,32 @@ pub first-message-from-an-unstarted-rank-is-unsound : sound first-message-from-a
 unfolding openedMessages
 first-message-from-an-unstarted-rank-is-unsound = messages-unsound first-message-from-an-unstarted-rank refl
 
+-- "Senders are started"
+abbrev pub sender-the-first-rank-unstarted : State
+sender-the-first-rank-unstarted = changed everything (fresh ∷ drawn 7 2 ∷ running 15 7 1 ∷ tables 15 7 1 ∷ message 0 15 2 60 ∷ [])
+
+pub sender-the-first-rank-unstarted-is-unsound : sound sender-the-first-rank-unstarted ≡ false
+unfolding openedMessages
+sender-the-first-rank-unstarted-is-unsound = messages-unsound sender-the-first-rank-unstarted refl
+
+-- "Senders are started"
+abbrev pub sender-the-last-rank-unstarted : State
+sender-the-last-rank-unstarted = changed everything (message 15 0 2 60 ∷ [])
+
+pub sender-the-last-rank-unstarted-is-unsound : sound sender-the-last-rank-unstarted ≡ false
+unfolding openedMessages
+sender-the-last-rank-unstarted-is-unsound = messages-unsound sender-the-last-rank-unstarted refl
+
+-- "Senders are started"
+abbrev pub sender-unstarted-before-another : State
+sender-unstarted-before-another =
+    changed everything
+    (fresh ∷ drawn 0 2 ∷ running 0 0 1 ∷ tables 0 0 1 ∷ running 1 0 2 ∷ tables 1 0 2 ∷ message 2 1 2 60 ∷ message 0 1 2 61 ∷ [])
+
+pub sender-unstarted-before-another-is-unsound : sound sender-unstarted-before-another ≡ false
+unfolding openedMessages
+sender-unstarted-before-another-is-unsound = messages-unsound sender-unstarted-before-another refl
+
 -- "receivers running or moving"
 abbrev pub receiver-moving : State
 receiver-moving = changed everything (message 3 6 2 60 ∷ [])
@@ -158,6 +254,43 @@ receiver-ended = changed everything (message 5 4 2 60 ∷ [])
 pub receiver-ended-is-unsound : sound receiver-ended ≡ false
 unfolding openedMessages
 receiver-ended-is-unsound = messages-unsound receiver-ended refl
+
+-- "receivers running or moving"
+abbrev pub messages-between-the-first-and-the-last-rank : State
+messages-between-the-first-and-the-last-rank =
+    changed everything
+    (fresh ∷ drawn 0 2 ∷ drawn 7 2 ∷ running 0 0 1 ∷ tables 0 0 1 ∷ running 15 7 1 ∷ tables 15 7 1 ∷ message 0 15 2 60 ∷ message 15 0 2 61 ∷
+    [])
+
+pub messages-between-the-first-and-the-last-rank-is-sound : sound messages-between-the-first-and-the-last-rank ≡ true
+unfolding openedSound
+messages-between-the-first-and-the-last-rank-is-sound = refl
+
+-- "receivers running or moving"
+abbrev pub receiver-the-first-rank-unstarted : State
+receiver-the-first-rank-unstarted = changed everything (fresh ∷ drawn 7 2 ∷ running 15 7 1 ∷ tables 15 7 1 ∷ message 15 0 2 60 ∷ [])
+
+pub receiver-the-first-rank-unstarted-is-unsound : sound receiver-the-first-rank-unstarted ≡ false
+unfolding openedMessages
+receiver-the-first-rank-unstarted-is-unsound = messages-unsound receiver-the-first-rank-unstarted refl
+
+-- "receivers running or moving"
+abbrev pub receiver-the-last-rank-unstarted : State
+receiver-the-last-rank-unstarted = changed everything (message 0 15 2 60 ∷ [])
+
+pub receiver-the-last-rank-unstarted-is-unsound : sound receiver-the-last-rank-unstarted ≡ false
+unfolding openedMessages
+receiver-the-last-rank-unstarted-is-unsound = messages-unsound receiver-the-last-rank-unstarted refl
+
+-- "receivers running or moving"
+abbrev pub receiver-unstarted-before-another : State
+receiver-unstarted-before-another =
+    changed everything
+    (fresh ∷ drawn 0 2 ∷ running 0 0 1 ∷ tables 0 0 1 ∷ running 1 0 2 ∷ tables 1 0 2 ∷ message 0 2 2 60 ∷ message 0 1 2 61 ∷ [])
+
+pub receiver-unstarted-before-another-is-unsound : sound receiver-unstarted-before-another ≡ false
+unfolding openedMessages
+receiver-unstarted-before-another-is-unsound = messages-unsound receiver-unstarted-before-another refl
 
 -- "While r's await of s is unheeded, messages from s to r are at places 0 and 1 only."
 abbrev pub unheeded-with-places-of-the-mover : State
@@ -233,6 +366,58 @@ pub first-message-at-place-two-with-an-unheeded-await-is-unsound : sound first-m
 unfolding openedMessages
 first-message-at-place-two-with-an-unheeded-await-is-unsound = messages-unsound first-message-at-place-two-with-an-unheeded-await refl
 
+-- "While r's await of s is unheeded, messages from s to r are at places 0 and 1 only."
+abbrev pub unheeded-with-places-of-the-first-rank : State
+unheeded-with-places-of-the-first-rank =
+    changed everything
+    (drawn 7 2 ∷ moving 0 0 1 7 1 ∷ running 15 7 2 ∷ tables 15 7 2 ∷ notice 15 0 ∷ unheeded 0 15 ∷ message 15 0 0 60 ∷ message 15 0 1 61 ∷
+    [])
+
+pub unheeded-with-places-of-the-first-rank-is-sound : sound unheeded-with-places-of-the-first-rank ≡ true
+unfolding openedSound
+unheeded-with-places-of-the-first-rank-is-sound = refl
+
+-- "While r's await of s is unheeded, messages from s to r are at places 0 and 1 only."
+abbrev pub unheeded-with-places-of-the-last-rank : State
+unheeded-with-places-of-the-last-rank =
+    changed everything
+    (drawn 7 2 ∷ moving 15 7 1 7 2 ∷ tables 15 7 1 ∷ notice 0 15 ∷ unheeded 15 0 ∷ message 0 15 0 60 ∷ message 0 15 1 61 ∷ [])
+
+pub unheeded-with-places-of-the-last-rank-is-sound : sound unheeded-with-places-of-the-last-rank ≡ true
+unfolding openedSound
+unheeded-with-places-of-the-last-rank-is-sound = refl
+
+-- "While r's await of s is unheeded, messages from s to r are at places 0 and 1 only."
+abbrev pub unheeded-with-place-two-of-the-first-rank : State
+unheeded-with-place-two-of-the-first-rank =
+    changed everything
+    (drawn 7 2 ∷ moving 0 0 1 7 1 ∷ running 15 7 2 ∷ tables 15 7 2 ∷ notice 15 0 ∷ unheeded 0 15 ∷ message 15 0 2 60 ∷ [])
+
+pub unheeded-with-place-two-of-the-first-rank-is-unsound : sound unheeded-with-place-two-of-the-first-rank ≡ false
+unfolding openedMessages
+unheeded-with-place-two-of-the-first-rank-is-unsound = messages-unsound unheeded-with-place-two-of-the-first-rank refl
+
+-- "While r's await of s is unheeded, messages from s to r are at places 0 and 1 only."
+abbrev pub unheeded-with-place-two-of-the-last-rank : State
+unheeded-with-place-two-of-the-last-rank =
+    changed everything
+    (drawn 7 2 ∷ moving 15 7 1 7 2 ∷ tables 15 7 1 ∷ notice 0 15 ∷ unheeded 15 0 ∷ message 0 15 2 60 ∷ [])
+
+pub unheeded-with-place-two-of-the-last-rank-is-unsound : sound unheeded-with-place-two-of-the-last-rank ≡ false
+unfolding openedMessages
+unheeded-with-place-two-of-the-last-rank-is-unsound = messages-unsound unheeded-with-place-two-of-the-last-rank refl
+
+-- "While r's await of s is unheeded, messages from s to r are at places 0 and 1 only."
+abbrev pub unheeded-with-place-two-before-another : State
+unheeded-with-place-two-before-another =
+    changed everything
+    (fresh ∷ drawn 0 2 ∷ drawn 1 1 ∷ running 0 0 1 ∷ tables 0 0 1 ∷ moving 1 0 2 1 1 ∷ tables 1 0 2 ∷ notice 0 1 ∷ unheeded 1 0 ∷
+    message 0 1 2 60 ∷ message 1 0 2 61 ∷ [])
+
+pub unheeded-with-place-two-before-another-is-unsound : sound unheeded-with-place-two-before-another ≡ false
+unfolding openedMessages
+unheeded-with-place-two-before-another-is-unsound = messages-unsound unheeded-with-place-two-before-another refl
+
 -- "Places 0 and 1 occur only for a moving receiver"
 abbrev pub place-zero-from-an-ended-rank : State
 place-zero-from-an-ended-rank = changed everything (message 4 6 0 60 ∷ [])
@@ -265,6 +450,40 @@ pub place-one-for-a-running-receiver-is-unsound : sound place-one-for-a-running-
 unfolding openedMessages
 place-one-for-a-running-receiver-is-unsound = messages-unsound place-one-for-a-running-receiver refl
 
+-- "Places 0 and 1 occur only for a moving receiver"
+abbrev pub place-zero-from-the-first-rank-to-the-last : State
+place-zero-from-the-first-rank-to-the-last = changed everything (drawn 7 1 ∷ running 15 7 1 ∷ tables 15 7 1 ∷ message 0 15 0 60 ∷ [])
+
+pub place-zero-from-the-first-rank-to-the-last-is-unsound : sound place-zero-from-the-first-rank-to-the-last ≡ false
+unfolding openedMessages
+place-zero-from-the-first-rank-to-the-last-is-unsound = messages-unsound place-zero-from-the-first-rank-to-the-last refl
+
+-- "Places 0 and 1 occur only for a moving receiver"
+abbrev pub place-zero-from-the-last-rank-to-the-first : State
+place-zero-from-the-last-rank-to-the-first = changed everything (drawn 7 1 ∷ running 15 7 1 ∷ tables 15 7 1 ∷ message 15 0 0 60 ∷ [])
+
+pub place-zero-from-the-last-rank-to-the-first-is-unsound : sound place-zero-from-the-last-rank-to-the-first ≡ false
+unfolding openedMessages
+place-zero-from-the-last-rank-to-the-first-is-unsound = messages-unsound place-zero-from-the-last-rank-to-the-first refl
+
+-- "Places 0 and 1 occur only for a moving receiver"
+abbrev pub place-zero-from-an-ended-rank-for-a-running-receiver : State
+place-zero-from-an-ended-rank-for-a-running-receiver = changed everything (message 4 3 0 60 ∷ [])
+
+pub place-zero-from-an-ended-rank-for-a-running-receiver-is-unsound : sound place-zero-from-an-ended-rank-for-a-running-receiver ≡ false
+unfolding openedMessages
+place-zero-from-an-ended-rank-for-a-running-receiver-is-unsound = messages-unsound place-zero-from-an-ended-rank-for-a-running-receiver refl
+
+-- "Places 0 and 1 occur only for a moving receiver"
+abbrev pub place-zero-before-place-two : State
+place-zero-before-place-two =
+    changed everything
+    (fresh ∷ drawn 0 2 ∷ running 0 0 1 ∷ tables 0 0 1 ∷ running 1 0 2 ∷ tables 1 0 2 ∷ message 0 1 0 60 ∷ message 0 1 2 61 ∷ [])
+
+pub place-zero-before-place-two-is-unsound : sound place-zero-before-place-two ≡ false
+unfolding openedMessages
+place-zero-before-place-two-is-unsound = messages-unsound place-zero-before-place-two refl
+
 -- "place 1 only with an await"
 abbrev pub place-one-from-an-ended-rank : State
 place-one-from-an-ended-rank = changed everything (marked 1 4 ∷ message 4 1 1 60 ∷ [])
@@ -288,6 +507,43 @@ place-one-with-an-await-of-the-sender = changed everything (marked 1 6 ∷ messa
 pub place-one-with-an-await-of-the-sender-is-unsound : sound place-one-with-an-await-of-the-sender ≡ false
 unfolding openedMessages
 place-one-with-an-await-of-the-sender-is-unsound = messages-unsound place-one-with-an-await-of-the-sender refl
+
+-- "place 1 only with an await"
+abbrev pub place-one-from-the-first-rank-to-the-last : State
+place-one-from-the-first-rank-to-the-last = changed everything (drawn 7 2 ∷ moving 15 7 1 7 2 ∷ tables 15 7 1 ∷ message 0 15 1 60 ∷ [])
+
+pub place-one-from-the-first-rank-to-the-last-is-unsound : sound place-one-from-the-first-rank-to-the-last ≡ false
+unfolding openedMessages
+place-one-from-the-first-rank-to-the-last-is-unsound = messages-unsound place-one-from-the-first-rank-to-the-last refl
+
+-- "place 1 only with an await"
+abbrev pub place-one-from-the-last-rank-to-the-first : State
+place-one-from-the-last-rank-to-the-first =
+    changed everything
+    (drawn 7 2 ∷ moving 0 0 1 7 1 ∷ running 15 7 2 ∷ tables 15 7 2 ∷ message 15 0 1 60 ∷ [])
+
+pub place-one-from-the-last-rank-to-the-first-is-unsound : sound place-one-from-the-last-rank-to-the-first ≡ false
+unfolding openedMessages
+place-one-from-the-last-rank-to-the-first-is-unsound = messages-unsound place-one-from-the-last-rank-to-the-first refl
+
+-- "place 1 only with an await"
+abbrev pub place-one-before-place-two : State
+place-one-before-place-two =
+    changed everything
+    (fresh ∷ drawn 0 2 ∷ drawn 1 1 ∷ running 0 0 1 ∷ tables 0 0 1 ∷ moving 1 0 2 1 1 ∷ tables 1 0 2 ∷ message 0 1 1 60 ∷ message 0 1 2 61 ∷
+    [])
+
+pub place-one-before-place-two-is-unsound : sound place-one-before-place-two ≡ false
+unfolding openedMessages
+place-one-before-place-two-is-unsound = messages-unsound place-one-before-place-two refl
+
+-- "place 1 only with an await"
+abbrev pub place-one-after-place-zero : State
+place-one-after-place-zero = changed everything (message 3 6 0 60 ∷ message 3 6 1 61 ∷ [])
+
+pub place-one-after-place-zero-is-unsound : sound place-one-after-place-zero ≡ false
+unfolding openedMessages
+place-one-after-place-zero-is-unsound = messages-unsound place-one-after-place-zero refl
 
 -- "place 3 only with a line from receiver to sender"
 abbrev pub place-three-along-a-notice-line : State
@@ -322,6 +578,48 @@ first-message-at-place-three-without-a-line =
 pub first-message-at-place-three-without-a-line-is-unsound : sound first-message-at-place-three-without-a-line ≡ false
 unfolding openedMessages
 first-message-at-place-three-without-a-line-is-unsound = messages-unsound first-message-at-place-three-without-a-line refl
+
+-- "place 3 only with a line from receiver to sender"
+abbrev pub place-three-from-the-first-rank-to-the-last : State
+place-three-from-the-first-rank-to-the-last = changed everything (drawn 7 1 ∷ running 15 7 1 ∷ tables 15 7 1 ∷ message 0 15 3 60 ∷ [])
+
+pub place-three-from-the-first-rank-to-the-last-is-unsound : sound place-three-from-the-first-rank-to-the-last ≡ false
+unfolding openedMessages
+place-three-from-the-first-rank-to-the-last-is-unsound = messages-unsound place-three-from-the-first-rank-to-the-last refl
+
+-- "place 3 only with a line from receiver to sender"
+abbrev pub place-three-from-the-last-rank-to-the-first : State
+place-three-from-the-last-rank-to-the-first = changed everything (drawn 7 1 ∷ running 15 7 1 ∷ tables 15 7 1 ∷ message 15 0 3 60 ∷ [])
+
+pub place-three-from-the-last-rank-to-the-first-is-unsound : sound place-three-from-the-last-rank-to-the-first ≡ false
+unfolding openedMessages
+place-three-from-the-last-rank-to-the-first-is-unsound = messages-unsound place-three-from-the-last-rank-to-the-first refl
+
+-- "place 3 only with a line from receiver to sender"
+abbrev pub place-three-without-a-line-from-a-moving-rank : State
+place-three-without-a-line-from-a-moving-rank = changed everything (message 1 3 3 60 ∷ [])
+
+pub place-three-without-a-line-from-a-moving-rank-is-unsound : sound place-three-without-a-line-from-a-moving-rank ≡ false
+unfolding openedMessages
+place-three-without-a-line-from-a-moving-rank-is-unsound = messages-unsound place-three-without-a-line-from-a-moving-rank refl
+
+-- "place 3 only with a line from receiver to sender"
+abbrev pub place-three-without-a-line-from-an-ended-rank : State
+place-three-without-a-line-from-an-ended-rank = changed everything (message 4 3 3 60 ∷ [])
+
+pub place-three-without-a-line-from-an-ended-rank-is-unsound : sound place-three-without-a-line-from-an-ended-rank ≡ false
+unfolding openedMessages
+place-three-without-a-line-from-an-ended-rank-is-unsound = messages-unsound place-three-without-a-line-from-an-ended-rank refl
+
+-- "place 3 only with a line from receiver to sender"
+abbrev pub place-three-without-a-line-before-another : State
+place-three-without-a-line-before-another =
+    changed everything
+    (fresh ∷ drawn 0 2 ∷ running 0 0 1 ∷ tables 0 0 1 ∷ running 1 0 2 ∷ tables 1 0 2 ∷ message 0 1 3 60 ∷ message 1 0 2 61 ∷ [])
+
+pub place-three-without-a-line-before-another-is-unsound : sound place-three-without-a-line-before-another ≡ false
+unfolding openedMessages
+place-three-without-a-line-before-another-is-unsound = messages-unsound place-three-without-a-line-before-another refl
 
 -- "Within a pair, places never fall along the order of sending."
 abbrev pub places-fall-between-pairs : State
@@ -402,6 +700,55 @@ place-falls-back-between-the-last-ranks =
 pub place-falls-back-between-the-last-ranks-is-unsound : sound place-falls-back-between-the-last-ranks ≡ false
 unfolding openedMessages
 place-falls-back-between-the-last-ranks-is-unsound = messages-unsound place-falls-back-between-the-last-ranks refl
+
+-- "Within a pair, places never fall along the order of sending."
+abbrev pub place-falls-from-three-to-one : State
+place-falls-from-three-to-one = changed everything (marked 6 5 ∷ plain 5 6 ∷ plain 6 5 ∷ message 5 6 3 60 ∷ message 5 6 1 61 ∷ [])
+
+pub place-falls-from-three-to-one-is-unsound : sound place-falls-from-three-to-one ≡ false
+unfolding openedMessages
+place-falls-from-three-to-one-is-unsound = messages-unsound place-falls-from-three-to-one refl
+
+-- "Within a pair, places never fall along the order of sending."
+abbrev pub place-falls-from-three-to-zero : State
+place-falls-from-three-to-zero = changed everything (plain 5 6 ∷ plain 6 5 ∷ message 5 6 3 60 ∷ message 5 6 0 61 ∷ [])
+
+pub place-falls-from-three-to-zero-is-unsound : sound place-falls-from-three-to-zero ≡ false
+unfolding openedMessages
+place-falls-from-three-to-zero-is-unsound = messages-unsound place-falls-from-three-to-zero refl
+
+-- "Within a pair, places never fall along the order of sending."
+abbrev pub places-rise-between-the-first-and-the-last-rank : State
+places-rise-between-the-first-and-the-last-rank =
+    changed everything
+    (fresh ∷ drawn 0 2 ∷ drawn 7 2 ∷ running 0 0 1 ∷ tables 0 0 1 ∷ running 15 7 1 ∷ tables 15 7 1 ∷ plain 0 15 ∷ plain 15 0 ∷
+    message 0 15 2 60 ∷ message 15 0 2 61 ∷ message 0 15 3 62 ∷ message 15 0 3 63 ∷ [])
+
+pub places-rise-between-the-first-and-the-last-rank-is-sound : sound places-rise-between-the-first-and-the-last-rank ≡ true
+unfolding openedSound
+places-rise-between-the-first-and-the-last-rank-is-sound = refl
+
+-- "Within a pair, places never fall along the order of sending."
+abbrev pub place-falls-from-the-first-rank-to-the-last : State
+place-falls-from-the-first-rank-to-the-last =
+    changed everything
+    (fresh ∷ drawn 0 2 ∷ drawn 7 2 ∷ running 0 0 1 ∷ tables 0 0 1 ∷ running 15 7 1 ∷ tables 15 7 1 ∷ plain 0 15 ∷ plain 15 0 ∷
+    message 0 15 3 60 ∷ message 0 15 2 61 ∷ [])
+
+pub place-falls-from-the-first-rank-to-the-last-is-unsound : sound place-falls-from-the-first-rank-to-the-last ≡ false
+unfolding openedMessages
+place-falls-from-the-first-rank-to-the-last-is-unsound = messages-unsound place-falls-from-the-first-rank-to-the-last refl
+
+-- "Within a pair, places never fall along the order of sending."
+abbrev pub place-falls-from-the-last-rank-to-the-first : State
+place-falls-from-the-last-rank-to-the-first =
+    changed everything
+    (fresh ∷ drawn 0 2 ∷ drawn 7 2 ∷ running 0 0 1 ∷ tables 0 0 1 ∷ running 15 7 1 ∷ tables 15 7 1 ∷ plain 0 15 ∷ plain 15 0 ∷
+    message 15 0 3 60 ∷ message 15 0 2 61 ∷ [])
+
+pub place-falls-from-the-last-rank-to-the-first-is-unsound : sound place-falls-from-the-last-rank-to-the-first ≡ false
+unfolding openedMessages
+place-falls-from-the-last-rank-to-the-first-is-unsound = messages-unsound place-falls-from-the-last-rank-to-the-first refl
 
 -- "Sound pairs have unread numbers rising within 1 to the count sent." (paper 02, change 4)
 abbrev pub numbers-with-gaps : State
@@ -701,3 +1048,110 @@ number-above-the-count-sent-between-the-last-ranks =
 pub number-above-the-count-sent-between-the-last-ranks-is-unsound : sound number-above-the-count-sent-between-the-last-ranks ≡ false
 unfolding openedMessages
 number-above-the-count-sent-between-the-last-ranks-is-unsound = messages-unsound number-above-the-count-sent-between-the-last-ranks refl
+
+-- "Sound pairs have unread numbers rising within 1 to the count sent." (paper 02, change 4)
+abbrev pub numbers-between-the-first-and-the-last-rank : State
+numbers-between-the-first-and-the-last-rank =
+    changed everything
+    (fresh ∷ drawn 0 2 ∷ drawn 7 2 ∷ running 0 0 1 ∷ tables 0 0 1 ∷ running 15 7 1 ∷ tables 15 7 1 ∷ sent 0 15 9 ∷ sent 15 0 9 ∷
+    numbered 0 15 2 60 1 ∷ numbered 15 0 2 61 4 ∷ numbered 0 15 2 62 9 ∷ numbered 15 0 2 63 9 ∷ [])
+
+pub numbers-between-the-first-and-the-last-rank-is-sound : sound numbers-between-the-first-and-the-last-rank ≡ true
+unfolding openedSound
+numbers-between-the-first-and-the-last-rank-is-sound = refl
+
+-- "Sound pairs have unread numbers rising within 1 to the count sent." (paper 02, change 4)
+abbrev pub number-repeated-from-the-first-rank-to-the-last : State
+number-repeated-from-the-first-rank-to-the-last =
+    changed everything
+    (fresh ∷ drawn 0 2 ∷ drawn 7 2 ∷ running 0 0 1 ∷ tables 0 0 1 ∷ running 15 7 1 ∷ tables 15 7 1 ∷ sent 0 15 9 ∷ numbered 0 15 2 60 4 ∷
+    numbered 0 15 2 61 4 ∷ [])
+
+pub number-repeated-from-the-first-rank-to-the-last-is-unsound : sound number-repeated-from-the-first-rank-to-the-last ≡ false
+unfolding openedMessages
+number-repeated-from-the-first-rank-to-the-last-is-unsound = messages-unsound number-repeated-from-the-first-rank-to-the-last refl
+
+-- "Sound pairs have unread numbers rising within 1 to the count sent." (paper 02, change 4)
+abbrev pub number-falls-from-the-last-rank-to-the-first : State
+number-falls-from-the-last-rank-to-the-first =
+    changed everything
+    (fresh ∷ drawn 0 2 ∷ drawn 7 2 ∷ running 0 0 1 ∷ tables 0 0 1 ∷ running 15 7 1 ∷ tables 15 7 1 ∷ sent 15 0 9 ∷ numbered 15 0 2 60 4 ∷
+    numbered 15 0 2 61 3 ∷ [])
+
+pub number-falls-from-the-last-rank-to-the-first-is-unsound : sound number-falls-from-the-last-rank-to-the-first ≡ false
+unfolding openedMessages
+number-falls-from-the-last-rank-to-the-first-is-unsound = messages-unsound number-falls-from-the-last-rank-to-the-first refl
+
+-- "Sound pairs have unread numbers rising within 1 to the count sent." (paper 02, change 4)
+abbrev pub number-above-the-count-sent-from-the-first-rank : State
+number-above-the-count-sent-from-the-first-rank =
+    changed everything
+    (fresh ∷ drawn 0 2 ∷ drawn 7 2 ∷ running 0 0 1 ∷ tables 0 0 1 ∷ running 15 7 1 ∷ tables 15 7 1 ∷ sent 0 15 4 ∷ sent 15 0 9 ∷
+    numbered 0 15 2 60 5 ∷ [])
+
+pub number-above-the-count-sent-from-the-first-rank-is-unsound : sound number-above-the-count-sent-from-the-first-rank ≡ false
+unfolding openedMessages
+number-above-the-count-sent-from-the-first-rank-is-unsound = messages-unsound number-above-the-count-sent-from-the-first-rank refl
+
+-- "Sound pairs have unread numbers rising within 1 to the count sent." (paper 02, change 4)
+abbrev pub number-above-the-count-sent-from-the-last-rank : State
+number-above-the-count-sent-from-the-last-rank =
+    changed everything
+    (fresh ∷ drawn 0 2 ∷ drawn 7 2 ∷ running 0 0 1 ∷ tables 0 0 1 ∷ running 15 7 1 ∷ tables 15 7 1 ∷ sent 0 15 9 ∷ sent 15 0 4 ∷
+    numbered 15 0 2 60 5 ∷ [])
+
+pub number-above-the-count-sent-from-the-last-rank-is-unsound : sound number-above-the-count-sent-from-the-last-rank ≡ false
+unfolding openedMessages
+number-above-the-count-sent-from-the-last-rank-is-unsound = messages-unsound number-above-the-count-sent-from-the-last-rank refl
+
+-- "Sound pairs have unread numbers rising within 1 to the count sent." (paper 02, change 4)
+abbrev pub number-zero-from-the-first-rank-to-the-last : State
+number-zero-from-the-first-rank-to-the-last =
+    changed everything
+    (fresh ∷ drawn 0 2 ∷ drawn 7 2 ∷ running 0 0 1 ∷ tables 0 0 1 ∷ running 15 7 1 ∷ tables 15 7 1 ∷ sent 0 15 4 ∷ numbered 0 15 2 60 0 ∷
+    [])
+
+pub number-zero-from-the-first-rank-to-the-last-is-unsound : sound number-zero-from-the-first-rank-to-the-last ≡ false
+unfolding openedMessages
+number-zero-from-the-first-rank-to-the-last-is-unsound = messages-unsound number-zero-from-the-first-rank-to-the-last refl
+
+-- "Sound pairs have unread numbers rising within 1 to the count sent." (paper 02, change 4)
+abbrev pub number-zero-from-the-last-rank-to-the-first : State
+number-zero-from-the-last-rank-to-the-first =
+    changed everything
+    (fresh ∷ drawn 0 2 ∷ drawn 7 2 ∷ running 0 0 1 ∷ tables 0 0 1 ∷ running 15 7 1 ∷ tables 15 7 1 ∷ sent 15 0 4 ∷ numbered 15 0 2 60 0 ∷
+    [])
+
+pub number-zero-from-the-last-rank-to-the-first-is-unsound : sound number-zero-from-the-last-rank-to-the-first ≡ false
+unfolding openedMessages
+number-zero-from-the-last-rank-to-the-first-is-unsound = messages-unsound number-zero-from-the-last-rank-to-the-first refl
+
+-- "Sound pairs have unread numbers rising within 1 to the count sent." (paper 02, change 4)
+abbrev pub first-number-zero : State
+first-number-zero = changed everything (sent 3 5 9 ∷ numbered 3 5 2 60 0 ∷ numbered 3 5 2 61 1 ∷ numbered 3 5 2 62 2 ∷ [])
+
+pub first-number-zero-is-unsound : sound first-number-zero ≡ false
+unfolding openedMessages
+first-number-zero-is-unsound = messages-unsound first-number-zero refl
+
+-- "Sound pairs have unread numbers rising within 1 to the count sent." (paper 02, change 4)
+abbrev pub first-message-with-number-zero : State
+first-message-with-number-zero =
+    changed everything
+    (fresh ∷ drawn 0 2 ∷ running 0 0 1 ∷ tables 0 0 1 ∷ running 1 0 2 ∷ tables 1 0 2 ∷ sent 0 1 9 ∷ numbered 0 1 2 60 0 ∷
+    numbered 0 1 2 61 1 ∷ [])
+
+pub first-message-with-number-zero-is-unsound : sound first-message-with-number-zero ≡ false
+unfolding openedMessages
+first-message-with-number-zero-is-unsound = messages-unsound first-message-with-number-zero refl
+
+-- "Sound pairs have unread numbers rising within 1 to the count sent." (paper 02, change 4)
+abbrev pub first-message-above-the-count-sent : State
+first-message-above-the-count-sent =
+    changed everything
+    (fresh ∷ drawn 0 2 ∷ running 0 0 1 ∷ tables 0 0 1 ∷ running 1 0 2 ∷ tables 1 0 2 ∷ sent 0 1 4 ∷ numbered 0 1 2 60 5 ∷ message 1 0 2 61 ∷
+    [])
+
+pub first-message-above-the-count-sent-is-unsound : sound first-message-above-the-count-sent ≡ false
+unfolding openedMessages
+first-message-above-the-count-sent-is-unsound = messages-unsound first-message-above-the-count-sent refl

@@ -8,7 +8,7 @@ use Rattle.protocol.specs.Sound.{sound}
 use Rattle.broker.specs.State.{State}
 use Rattle.test_worked.specs.Unsound.{names-unsound}
 use Rattle.test_worked.specs.Whole.{everything}
-use Rattle.test_worked.specs.Words.{changed, running, moving, ended, drawn, table, tables, call, message}
+use Rattle.test_worked.specs.Words.{changed, fresh, running, moving, ended, drawn, table, tables, call, message}
 
 -- "Ranks .. are in range"
 abbrev pub rank-fifteen-in-every-role : State
@@ -27,6 +27,22 @@ call-to-rank-sixteen = changed everything (call 5 16 0 1 ∷ [])
 pub call-to-rank-sixteen-is-unsound : sound call-to-rank-sixteen ≡ false
 unfolding openedNames
 call-to-rank-sixteen-is-unsound = names-unsound call-to-rank-sixteen refl
+
+-- "Ranks .. are in range"
+abbrev pub call-of-the-first-rank-to-rank-sixteen : State
+call-of-the-first-rank-to-rank-sixteen = changed everything (call 0 16 0 1 ∷ [])
+
+pub call-of-the-first-rank-to-rank-sixteen-is-unsound : sound call-of-the-first-rank-to-rank-sixteen ≡ false
+unfolding openedNames
+call-of-the-first-rank-to-rank-sixteen-is-unsound = names-unsound call-of-the-first-rank-to-rank-sixteen refl
+
+-- "Ranks .. are in range"
+abbrev pub call-of-the-last-rank-to-rank-sixteen : State
+call-of-the-last-rank-to-rank-sixteen = changed everything (drawn 7 1 ∷ running 15 7 1 ∷ tables 15 7 1 ∷ call 15 16 0 1 ∷ [])
+
+pub call-of-the-last-rank-to-rank-sixteen-is-unsound : sound call-of-the-last-rank-to-rank-sixteen ≡ false
+unfolding openedNames
+call-of-the-last-rank-to-rank-sixteen-is-unsound = names-unsound call-of-the-last-rank-to-rank-sixteen refl
 
 -- "hosts .. are in range"
 abbrev pub host-seven-in-every-role : State
@@ -85,6 +101,62 @@ call-posted-to-host-eight = changed everything (call 3 0 8 1 ∷ [])
 pub call-posted-to-host-eight-is-unsound : sound call-posted-to-host-eight ≡ false
 unfolding openedNames
 call-posted-to-host-eight-is-unsound = names-unsound call-posted-to-host-eight refl
+
+-- "hosts .. are in range"
+abbrev pub first-rank-on-host-eight : State
+first-rank-on-host-eight = changed everything (running 0 8 1 ∷ [])
+
+pub first-rank-on-host-eight-is-unsound : sound first-rank-on-host-eight ≡ false
+unfolding openedNames
+first-rank-on-host-eight-is-unsound = names-unsound first-rank-on-host-eight refl
+
+-- "hosts .. are in range"
+abbrev pub last-rank-on-host-eight : State
+last-rank-on-host-eight = changed everything (drawn 7 1 ∷ running 15 7 1 ∷ tables 15 7 1 ∷ running 15 8 1 ∷ [])
+
+pub last-rank-on-host-eight-is-unsound : sound last-rank-on-host-eight ≡ false
+unfolding openedNames
+last-rank-on-host-eight-is-unsound = names-unsound last-rank-on-host-eight refl
+
+-- "hosts .. are in range"
+abbrev pub entry-of-the-first-rank-for-the-last-on-host-eight : State
+entry-of-the-first-rank-for-the-last-on-host-eight = changed everything (drawn 7 1 ∷ running 15 7 1 ∷ tables 15 7 1 ∷ table 0 15 8 1 ∷ [])
+
+pub entry-of-the-first-rank-for-the-last-on-host-eight-is-unsound : sound entry-of-the-first-rank-for-the-last-on-host-eight ≡ false
+unfolding openedNames
+entry-of-the-first-rank-for-the-last-on-host-eight-is-unsound = names-unsound entry-of-the-first-rank-for-the-last-on-host-eight refl
+
+-- "hosts .. are in range"
+abbrev pub entry-of-the-last-rank-for-the-first-on-host-eight : State
+entry-of-the-last-rank-for-the-first-on-host-eight = changed everything (table 15 0 8 1 ∷ [])
+
+pub entry-of-the-last-rank-for-the-first-on-host-eight-is-unsound : sound entry-of-the-last-rank-for-the-first-on-host-eight ≡ false
+unfolding openedNames
+entry-of-the-last-rank-for-the-first-on-host-eight-is-unsound = names-unsound entry-of-the-last-rank-for-the-first-on-host-eight refl
+
+-- "hosts .. are in range"
+abbrev pub call-of-the-first-rank-posted-to-host-eight : State
+call-of-the-first-rank-posted-to-host-eight = changed everything (call 0 5 8 1 ∷ [])
+
+pub call-of-the-first-rank-posted-to-host-eight-is-unsound : sound call-of-the-first-rank-posted-to-host-eight ≡ false
+unfolding openedNames
+call-of-the-first-rank-posted-to-host-eight-is-unsound = names-unsound call-of-the-first-rank-posted-to-host-eight refl
+
+-- "hosts .. are in range"
+abbrev pub call-of-the-last-rank-posted-to-host-eight : State
+call-of-the-last-rank-posted-to-host-eight = changed everything (drawn 7 1 ∷ running 15 7 1 ∷ tables 15 7 1 ∷ call 15 5 8 1 ∷ [])
+
+pub call-of-the-last-rank-posted-to-host-eight-is-unsound : sound call-of-the-last-rank-posted-to-host-eight ≡ false
+unfolding openedNames
+call-of-the-last-rank-posted-to-host-eight-is-unsound = names-unsound call-of-the-last-rank-posted-to-host-eight refl
+
+-- "hosts .. are in range"
+abbrev pub entry-for-itself-on-host-eight : State
+entry-for-itself-on-host-eight = changed everything (table 3 3 8 1 ∷ [])
+
+pub entry-for-itself-on-host-eight-is-unsound : sound entry-for-itself-on-host-eight ≡ false
+unfolding openedNames
+entry-for-itself-on-host-eight-is-unsound = names-unsound entry-for-itself-on-host-eight refl
 
 -- "numbers are in range"
 abbrev pub last-number-in-every-role : State
@@ -155,6 +227,62 @@ pub call-posted-to-number-zero-is-unsound : sound call-posted-to-number-zero ≡
 unfolding openedNames
 call-posted-to-number-zero-is-unsound = names-unsound call-posted-to-number-zero refl
 
+-- "numbers are in range"
+abbrev pub entry-for-itself-at-number-zero : State
+entry-for-itself-at-number-zero = changed everything (table 3 3 3 0 ∷ [])
+
+pub entry-for-itself-at-number-zero-is-unsound : sound entry-for-itself-at-number-zero ≡ false
+unfolding openedNames
+entry-for-itself-at-number-zero-is-unsound = names-unsound entry-for-itself-at-number-zero refl
+
+-- "numbers are in range"
+abbrev pub first-rank-at-number-zero : State
+first-rank-at-number-zero = changed everything (running 0 1 0 ∷ [])
+
+pub first-rank-at-number-zero-is-unsound : sound first-rank-at-number-zero ≡ false
+unfolding openedNames
+first-rank-at-number-zero-is-unsound = names-unsound first-rank-at-number-zero refl
+
+-- "numbers are in range"
+abbrev pub last-rank-at-number-zero : State
+last-rank-at-number-zero = changed everything (drawn 7 1 ∷ running 15 7 1 ∷ tables 15 7 1 ∷ running 15 7 0 ∷ [])
+
+pub last-rank-at-number-zero-is-unsound : sound last-rank-at-number-zero ≡ false
+unfolding openedNames
+last-rank-at-number-zero-is-unsound = names-unsound last-rank-at-number-zero refl
+
+-- "numbers are in range"
+abbrev pub entry-of-the-first-rank-for-the-last-at-number-zero : State
+entry-of-the-first-rank-for-the-last-at-number-zero = changed everything (drawn 7 1 ∷ running 15 7 1 ∷ tables 15 7 1 ∷ table 0 15 7 0 ∷ [])
+
+pub entry-of-the-first-rank-for-the-last-at-number-zero-is-unsound : sound entry-of-the-first-rank-for-the-last-at-number-zero ≡ false
+unfolding openedNames
+entry-of-the-first-rank-for-the-last-at-number-zero-is-unsound = names-unsound entry-of-the-first-rank-for-the-last-at-number-zero refl
+
+-- "numbers are in range"
+abbrev pub entry-of-the-last-rank-for-the-first-at-number-zero : State
+entry-of-the-last-rank-for-the-first-at-number-zero = changed everything (table 15 0 1 0 ∷ [])
+
+pub entry-of-the-last-rank-for-the-first-at-number-zero-is-unsound : sound entry-of-the-last-rank-for-the-first-at-number-zero ≡ false
+unfolding openedNames
+entry-of-the-last-rank-for-the-first-at-number-zero-is-unsound = names-unsound entry-of-the-last-rank-for-the-first-at-number-zero refl
+
+-- "numbers are in range"
+abbrev pub call-of-the-first-rank-posted-to-number-zero : State
+call-of-the-first-rank-posted-to-number-zero = changed everything (call 0 5 1 0 ∷ [])
+
+pub call-of-the-first-rank-posted-to-number-zero-is-unsound : sound call-of-the-first-rank-posted-to-number-zero ≡ false
+unfolding openedNames
+call-of-the-first-rank-posted-to-number-zero-is-unsound = names-unsound call-of-the-first-rank-posted-to-number-zero refl
+
+-- "numbers are in range"
+abbrev pub call-of-the-last-rank-posted-to-number-zero : State
+call-of-the-last-rank-posted-to-number-zero = changed everything (drawn 7 1 ∷ running 15 7 1 ∷ tables 15 7 1 ∷ call 15 5 7 0 ∷ [])
+
+pub call-of-the-last-rank-posted-to-number-zero-is-unsound : sound call-of-the-last-rank-posted-to-number-zero ≡ false
+unfolding openedNames
+call-of-the-last-rank-posted-to-number-zero-is-unsound = names-unsound call-of-the-last-rank-posted-to-number-zero refl
+
 -- "each vmid in use .. has a number already drawn"
 abbrev pub running-not-drawn : State
 running-not-drawn = changed everything (running 3 3 2 ∷ [])
@@ -211,6 +339,80 @@ pub numbers-forgotten-is-unsound : sound numbers-forgotten ≡ false
 unfolding openedNames
 numbers-forgotten-is-unsound = names-unsound numbers-forgotten refl
 
+-- "each vmid in use .. has a number already drawn"
+abbrev pub first-rank-not-drawn : State
+first-rank-not-drawn = changed everything (running 0 0 3 ∷ [])
+
+pub first-rank-not-drawn-is-unsound : sound first-rank-not-drawn ≡ false
+unfolding openedNames
+first-rank-not-drawn-is-unsound = names-unsound first-rank-not-drawn refl
+
+-- "each vmid in use .. has a number already drawn"
+abbrev pub mover-of-the-first-rank-not-drawn : State
+mover-of-the-first-rank-not-drawn = changed everything (drawn 7 1 ∷ moving 0 0 1 7 1 ∷ moving 0 0 3 7 1 ∷ [])
+
+pub mover-of-the-first-rank-not-drawn-is-unsound : sound mover-of-the-first-rank-not-drawn ≡ false
+unfolding openedNames
+mover-of-the-first-rank-not-drawn-is-unsound = names-unsound mover-of-the-first-rank-not-drawn refl
+
+-- "each vmid in use .. has a number already drawn"
+abbrev pub arrival-of-the-first-rank-not-drawn : State
+arrival-of-the-first-rank-not-drawn = changed everything (drawn 7 1 ∷ moving 0 0 1 7 1 ∷ moving 0 0 1 7 2 ∷ [])
+
+pub arrival-of-the-first-rank-not-drawn-is-unsound : sound arrival-of-the-first-rank-not-drawn ≡ false
+unfolding openedNames
+arrival-of-the-first-rank-not-drawn-is-unsound = names-unsound arrival-of-the-first-rank-not-drawn refl
+
+-- "each vmid in use .. has a number already drawn"
+abbrev pub first-rank-ended-not-drawn : State
+first-rank-ended-not-drawn = changed everything (fresh ∷ drawn 0 1 ∷ ended 0 0 2 ∷ tables 0 0 1 ∷ [])
+
+pub first-rank-ended-not-drawn-is-unsound : sound first-rank-ended-not-drawn ≡ false
+unfolding openedNames
+first-rank-ended-not-drawn-is-unsound = names-unsound first-rank-ended-not-drawn refl
+
+-- "each vmid in use .. has a number already drawn"
+abbrev pub mover-of-the-last-rank-not-drawn : State
+mover-of-the-last-rank-not-drawn = changed everything (drawn 7 2 ∷ moving 15 7 1 7 2 ∷ tables 15 7 1 ∷ moving 15 7 3 7 2 ∷ [])
+
+pub mover-of-the-last-rank-not-drawn-is-unsound : sound mover-of-the-last-rank-not-drawn ≡ false
+unfolding openedNames
+mover-of-the-last-rank-not-drawn-is-unsound = names-unsound mover-of-the-last-rank-not-drawn refl
+
+-- "each vmid in use .. has a number already drawn"
+abbrev pub arrival-of-the-last-rank-not-drawn : State
+arrival-of-the-last-rank-not-drawn = changed everything (drawn 7 2 ∷ moving 15 7 1 7 2 ∷ tables 15 7 1 ∷ moving 15 7 1 7 3 ∷ [])
+
+pub arrival-of-the-last-rank-not-drawn-is-unsound : sound arrival-of-the-last-rank-not-drawn ≡ false
+unfolding openedNames
+arrival-of-the-last-rank-not-drawn-is-unsound = names-unsound arrival-of-the-last-rank-not-drawn refl
+
+-- "each vmid in use .. has a number already drawn"
+abbrev pub last-rank-ended-not-drawn : State
+last-rank-ended-not-drawn = changed everything (drawn 7 1 ∷ ended 15 7 2 ∷ tables 15 7 1 ∷ [])
+
+pub last-rank-ended-not-drawn-is-unsound : sound last-rank-ended-not-drawn ≡ false
+unfolding openedNames
+last-rank-ended-not-drawn-is-unsound = names-unsound last-rank-ended-not-drawn refl
+
+-- "each vmid in use .. has a number already drawn"
+abbrev pub first-and-last-rank-move : State
+first-and-last-rank-move = changed everything (drawn 7 3 ∷ moving 0 0 1 7 1 ∷ moving 15 7 2 7 3 ∷ tables 15 7 2 ∷ [])
+
+pub first-and-last-rank-move-is-sound : sound first-and-last-rank-move ≡ true
+unfolding openedSound
+first-and-last-rank-move-is-sound = refl
+
+-- "each vmid in use .. has a number already drawn"
+abbrev pub first-and-last-rank-ended : State
+first-and-last-rank-ended =
+    changed everything
+    (fresh ∷ drawn 0 1 ∷ drawn 7 1 ∷ ended 0 0 1 ∷ ended 15 7 1 ∷ tables 0 0 1 ∷ tables 15 7 1 ∷ [])
+
+pub first-and-last-rank-ended-is-sound : sound first-and-last-rank-ended ≡ true
+unfolding openedSound
+first-and-last-rank-ended-is-sound = refl
+
 -- "each vmid .. in a table .. has a number already drawn"
 abbrev pub entries-with-any-drawn-vmid : State
 entries-with-any-drawn-vmid =
@@ -244,6 +446,22 @@ entry-not-drawn-of-an-unstarted-holder = changed everything (table 15 0 0 3 ∷ 
 pub entry-not-drawn-of-an-unstarted-holder-is-unsound : sound entry-not-drawn-of-an-unstarted-holder ≡ false
 unfolding openedNames
 entry-not-drawn-of-an-unstarted-holder-is-unsound = names-unsound entry-not-drawn-of-an-unstarted-holder refl
+
+-- "each vmid .. in a table .. has a number already drawn"
+abbrev pub entry-for-itself-not-drawn : State
+entry-for-itself-not-drawn = changed everything (table 3 3 3 2 ∷ [])
+
+pub entry-for-itself-not-drawn-is-unsound : sound entry-for-itself-not-drawn ≡ false
+unfolding openedNames
+entry-for-itself-not-drawn-is-unsound = names-unsound entry-for-itself-not-drawn refl
+
+-- "each vmid .. in a table .. has a number already drawn"
+abbrev pub entry-of-the-first-rank-for-the-last-not-drawn : State
+entry-of-the-first-rank-for-the-last-not-drawn = changed everything (drawn 7 1 ∷ running 15 7 1 ∷ tables 15 7 1 ∷ table 0 15 7 2 ∷ [])
+
+pub entry-of-the-first-rank-for-the-last-not-drawn-is-unsound : sound entry-of-the-first-rank-for-the-last-not-drawn ≡ false
+unfolding openedNames
+entry-of-the-first-rank-for-the-last-not-drawn-is-unsound = names-unsound entry-of-the-first-rank-for-the-last-not-drawn refl
 
 -- "each vmid .. in a .. call has a number already drawn"
 abbrev pub call-posted-to-a-vmid-of-another-rank : State
@@ -284,6 +502,22 @@ call-of-the-last-rank-not-drawn = changed everything (drawn 7 1 ∷ running 15 7
 pub call-of-the-last-rank-not-drawn-is-unsound : sound call-of-the-last-rank-not-drawn ≡ false
 unfolding openedNames
 call-of-the-last-rank-not-drawn-is-unsound = names-unsound call-of-the-last-rank-not-drawn refl
+
+-- "each vmid .. in a .. call has a number already drawn"
+abbrev pub call-of-the-first-rank-not-drawn : State
+call-of-the-first-rank-not-drawn = changed everything (call 0 5 0 3 ∷ [])
+
+pub call-of-the-first-rank-not-drawn-is-unsound : sound call-of-the-first-rank-not-drawn ≡ false
+unfolding openedNames
+call-of-the-first-rank-not-drawn-is-unsound = names-unsound call-of-the-first-rank-not-drawn refl
+
+-- "each vmid .. in a .. call has a number already drawn"
+abbrev pub calls-of-the-first-and-the-last-rank : State
+calls-of-the-first-and-the-last-rank = changed everything (drawn 7 1 ∷ running 15 7 1 ∷ tables 15 7 1 ∷ call 0 15 7 1 ∷ call 15 0 0 1 ∷ [])
+
+pub calls-of-the-first-and-the-last-rank-is-sound : sound calls-of-the-first-and-the-last-rank ≡ true
+unfolding openedSound
+calls-of-the-first-and-the-last-rank-is-sound = refl
 
 -- "a table entry is 0.0 exactly when the rank it is for is unstarted"
 abbrev pub entry-unknown-for-a-running-rank : State
@@ -373,6 +607,62 @@ pub entry-of-the-last-rank-for-itself-is-unsound : sound entry-of-the-last-rank-
 unfolding openedNames
 entry-of-the-last-rank-for-itself-is-unsound = names-unsound entry-of-the-last-rank-for-itself refl
 
+-- "a table entry is 0.0 exactly when the rank it is for is unstarted"
+abbrev pub entry-of-the-first-rank-for-the-last-unknown : State
+entry-of-the-first-rank-for-the-last-unknown = changed everything (drawn 7 1 ∷ running 15 7 1 ∷ tables 15 7 1 ∷ table 0 15 0 0 ∷ [])
+
+pub entry-of-the-first-rank-for-the-last-unknown-is-unsound : sound entry-of-the-first-rank-for-the-last-unknown ≡ false
+unfolding openedNames
+entry-of-the-first-rank-for-the-last-unknown-is-unsound = names-unsound entry-of-the-first-rank-for-the-last-unknown refl
+
+-- "a table entry is 0.0 exactly when the rank it is for is unstarted"
+abbrev pub entry-of-the-last-rank-for-the-first-unknown : State
+entry-of-the-last-rank-for-the-first-unknown = changed everything (table 15 0 0 0 ∷ [])
+
+pub entry-of-the-last-rank-for-the-first-unknown-is-unsound : sound entry-of-the-last-rank-for-the-first-unknown ≡ false
+unfolding openedNames
+entry-of-the-last-rank-for-the-first-unknown-is-unsound = names-unsound entry-of-the-last-rank-for-the-first-unknown refl
+
+-- "a table entry is 0.0 exactly when the rank it is for is unstarted"
+abbrev pub entry-unknown-that-a-moving-rank-has : State
+entry-unknown-that-a-moving-rank-has = changed everything (table 1 3 0 0 ∷ [])
+
+pub entry-unknown-that-a-moving-rank-has-is-unsound : sound entry-unknown-that-a-moving-rank-has ≡ false
+unfolding openedNames
+entry-unknown-that-a-moving-rank-has-is-unsound = names-unsound entry-unknown-that-a-moving-rank-has refl
+
+-- "a table entry is 0.0 exactly when the rank it is for is unstarted"
+abbrev pub entry-of-the-first-rank-for-the-last-unstarted : State
+entry-of-the-first-rank-for-the-last-unstarted = changed everything (table 0 15 0 1 ∷ [])
+
+pub entry-of-the-first-rank-for-the-last-unstarted-is-unsound : sound entry-of-the-first-rank-for-the-last-unstarted ≡ false
+unfolding openedNames
+entry-of-the-first-rank-for-the-last-unstarted-is-unsound = names-unsound entry-of-the-first-rank-for-the-last-unstarted refl
+
+-- "a table entry is 0.0 exactly when the rank it is for is unstarted"
+abbrev pub entry-of-the-last-rank-for-the-first-unstarted : State
+entry-of-the-last-rank-for-the-first-unstarted = changed everything (fresh ∷ drawn 7 1 ∷ table 15 0 7 1 ∷ [])
+
+pub entry-of-the-last-rank-for-the-first-unstarted-is-unsound : sound entry-of-the-last-rank-for-the-first-unstarted ≡ false
+unfolding openedNames
+entry-of-the-last-rank-for-the-first-unstarted-is-unsound = names-unsound entry-of-the-last-rank-for-the-first-unstarted refl
+
+-- "a table entry is 0.0 exactly when the rank it is for is unstarted"
+abbrev pub entry-of-a-moving-rank-for-an-unstarted : State
+entry-of-a-moving-rank-for-an-unstarted = changed everything (table 1 14 0 1 ∷ [])
+
+pub entry-of-a-moving-rank-for-an-unstarted-is-unsound : sound entry-of-a-moving-rank-for-an-unstarted ≡ false
+unfolding openedNames
+entry-of-a-moving-rank-for-an-unstarted-is-unsound = names-unsound entry-of-a-moving-rank-for-an-unstarted refl
+
+-- "a table entry is 0.0 exactly when the rank it is for is unstarted"
+abbrev pub entry-of-an-ended-rank-for-an-unstarted : State
+entry-of-an-ended-rank-for-an-unstarted = changed everything (table 4 14 0 1 ∷ [])
+
+pub entry-of-an-ended-rank-for-an-unstarted-is-unsound : sound entry-of-an-ended-rank-for-an-unstarted ≡ false
+unfolding openedNames
+entry-of-an-ended-rank-for-an-unstarted-is-unsound = names-unsound entry-of-an-ended-rank-for-an-unstarted refl
+
 -- "no other vmid is 0.0"
 abbrev pub running-unknown : State
 running-unknown = changed everything (running 3 0 0 ∷ [])
@@ -412,6 +702,38 @@ call-posted-to-unknown = changed everything (call 3 0 0 0 ∷ [])
 pub call-posted-to-unknown-is-unsound : sound call-posted-to-unknown ≡ false
 unfolding openedNames
 call-posted-to-unknown-is-unsound = names-unsound call-posted-to-unknown refl
+
+-- "no other vmid is 0.0"
+abbrev pub first-rank-unknown : State
+first-rank-unknown = changed everything (running 0 0 0 ∷ [])
+
+pub first-rank-unknown-is-unsound : sound first-rank-unknown ≡ false
+unfolding openedNames
+first-rank-unknown-is-unsound = names-unsound first-rank-unknown refl
+
+-- "no other vmid is 0.0"
+abbrev pub last-rank-unknown : State
+last-rank-unknown = changed everything (drawn 7 1 ∷ running 15 7 1 ∷ tables 15 7 1 ∷ running 15 0 0 ∷ [])
+
+pub last-rank-unknown-is-unsound : sound last-rank-unknown ≡ false
+unfolding openedNames
+last-rank-unknown-is-unsound = names-unsound last-rank-unknown refl
+
+-- "no other vmid is 0.0"
+abbrev pub call-of-the-first-rank-posted-to-unknown : State
+call-of-the-first-rank-posted-to-unknown = changed everything (call 0 5 0 0 ∷ [])
+
+pub call-of-the-first-rank-posted-to-unknown-is-unsound : sound call-of-the-first-rank-posted-to-unknown ≡ false
+unfolding openedNames
+call-of-the-first-rank-posted-to-unknown-is-unsound = names-unsound call-of-the-first-rank-posted-to-unknown refl
+
+-- "no other vmid is 0.0"
+abbrev pub call-of-the-last-rank-posted-to-unknown : State
+call-of-the-last-rank-posted-to-unknown = changed everything (drawn 7 1 ∷ running 15 7 1 ∷ tables 15 7 1 ∷ call 15 5 0 0 ∷ [])
+
+pub call-of-the-last-rank-posted-to-unknown-is-unsound : sound call-of-the-last-rank-posted-to-unknown ≡ false
+unfolding openedNames
+call-of-the-last-rank-posted-to-unknown-is-unsound = names-unsound call-of-the-last-rank-posted-to-unknown refl
 
 -- "No two running processes, movers or arrivals share a vmid."
 abbrev pub running-shares-with-running : State
@@ -516,6 +838,22 @@ last-rank-shares-with-its-arrival = changed everything (drawn 7 1 ∷ moving 15 
 pub last-rank-shares-with-its-arrival-is-unsound : sound last-rank-shares-with-its-arrival ≡ false
 unfolding openedNames
 last-rank-shares-with-its-arrival-is-unsound = names-unsound last-rank-shares-with-its-arrival refl
+
+-- "No two running processes, movers or arrivals share a vmid."
+abbrev pub first-and-last-rank-share : State
+first-and-last-rank-share = changed everything (running 15 0 1 ∷ tables 15 0 1 ∷ [])
+
+pub first-and-last-rank-share-is-unsound : sound first-and-last-rank-share ≡ false
+unfolding openedNames
+first-and-last-rank-share-is-unsound = names-unsound first-and-last-rank-share refl
+
+-- "No two running processes, movers or arrivals share a vmid."
+abbrev pub first-rank-shares-with-its-arrival : State
+first-rank-shares-with-its-arrival = changed everything (moving 0 0 1 0 1 ∷ [])
+
+pub first-rank-shares-with-its-arrival-is-unsound : sound first-rank-shares-with-its-arrival ≡ false
+unfolding openedNames
+first-rank-shares-with-its-arrival-is-unsound = names-unsound first-rank-shares-with-its-arrival refl
 
 -- "No two running processes, movers or arrivals share a vmid." An ended rank has no process: its last vmid may be anybody's.
 abbrev pub ended-rank-has-the-vmid-of-a-running-process : State

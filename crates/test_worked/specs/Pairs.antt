@@ -8,7 +8,7 @@ use Rattle.protocol.specs.Sound.{sound}
 use Rattle.broker.specs.State.{State}
 use Rattle.test_worked.specs.Unsound.{pairs-unsound}
 use Rattle.test_worked.specs.Whole.{everything}
-use Rattle.test_worked.specs.Words.{changed, running, moving, drawn, tables, call, plain, notice, unheeded, marked}
+use Rattle.test_worked.specs.Words.{changed, fresh, running, moving, ended, drawn, tables, call, plain, notice, unheeded, marked}
 
 -- "Nobody has a line .. with itself."
 abbrev pub line-with-itself : State
@@ -42,6 +42,22 @@ pub await-of-itself-is-unsound : sound await-of-itself ≡ false
 unfolding openedPairs
 await-of-itself-is-unsound = pairs-unsound await-of-itself refl
 
+-- "Nobody has a[n] .. await .. with itself."
+abbrev pub await-of-the-first-rank-of-itself : State
+await-of-the-first-rank-of-itself = changed everything (drawn 7 1 ∷ moving 0 0 1 7 1 ∷ marked 0 0 ∷ [])
+
+pub await-of-the-first-rank-of-itself-is-unsound : sound await-of-the-first-rank-of-itself ≡ false
+unfolding openedPairs
+await-of-the-first-rank-of-itself-is-unsound = pairs-unsound await-of-the-first-rank-of-itself refl
+
+-- "Nobody has a[n] .. await .. with itself."
+abbrev pub await-of-the-last-rank-of-itself : State
+await-of-the-last-rank-of-itself = changed everything (drawn 7 2 ∷ moving 15 7 1 7 2 ∷ tables 15 7 1 ∷ marked 15 15 ∷ [])
+
+pub await-of-the-last-rank-of-itself-is-unsound : sound await-of-the-last-rank-of-itself ≡ false
+unfolding openedPairs
+await-of-the-last-rank-of-itself-is-unsound = pairs-unsound await-of-the-last-rank-of-itself refl
+
 -- "Nobody has a .. call .. with itself."
 abbrev pub call-to-itself : State
 call-to-itself = changed everything (call 5 5 0 2 ∷ [])
@@ -49,6 +65,22 @@ call-to-itself = changed everything (call 5 5 0 2 ∷ [])
 pub call-to-itself-is-unsound : sound call-to-itself ≡ false
 unfolding openedPairs
 call-to-itself-is-unsound = pairs-unsound call-to-itself refl
+
+-- "Nobody has a .. call .. with itself."
+abbrev pub call-of-the-first-rank-to-itself : State
+call-of-the-first-rank-to-itself = changed everything (call 0 0 0 1 ∷ [])
+
+pub call-of-the-first-rank-to-itself-is-unsound : sound call-of-the-first-rank-to-itself ≡ false
+unfolding openedPairs
+call-of-the-first-rank-to-itself-is-unsound = pairs-unsound call-of-the-first-rank-to-itself refl
+
+-- "Nobody has a .. call .. with itself."
+abbrev pub call-of-the-last-rank-to-itself : State
+call-of-the-last-rank-to-itself = changed everything (drawn 7 1 ∷ running 15 7 1 ∷ tables 15 7 1 ∷ call 15 15 7 1 ∷ [])
+
+pub call-of-the-last-rank-to-itself-is-unsound : sound call-of-the-last-rank-to-itself ≡ false
+unfolding openedPairs
+call-of-the-last-rank-to-itself-is-unsound = pairs-unsound call-of-the-last-rank-to-itself refl
 
 -- "Lines belong to running or moving ranks"
 abbrev pub plain-line-of-running-ranks : State
@@ -138,6 +170,27 @@ pub notice-line-of-an-unstarted-rank-is-unsound : sound notice-line-of-an-unstar
 unfolding openedPairs
 notice-line-of-an-unstarted-rank-is-unsound = pairs-unsound notice-line-of-an-unstarted-rank refl
 
+-- "Lines belong to running or moving ranks"
+abbrev pub plain-line-of-the-first-and-the-last-rank : State
+plain-line-of-the-first-and-the-last-rank =
+    changed everything
+    (fresh ∷ drawn 0 2 ∷ drawn 7 2 ∷ running 0 0 1 ∷ tables 0 0 1 ∷ running 15 7 1 ∷ tables 15 7 1 ∷ plain 0 15 ∷ plain 15 0 ∷ [])
+
+pub plain-line-of-the-first-and-the-last-rank-is-sound : sound plain-line-of-the-first-and-the-last-rank ≡ true
+unfolding openedSound
+plain-line-of-the-first-and-the-last-rank-is-sound = refl
+
+-- "Lines belong to running or moving ranks"
+abbrev pub plain-line-of-the-first-rank-ended : State
+plain-line-of-the-first-rank-ended =
+    changed everything
+    (fresh ∷ drawn 0 2 ∷ drawn 7 2 ∷ running 0 0 1 ∷ tables 0 0 1 ∷ running 15 7 1 ∷ tables 15 7 1 ∷ plain 0 15 ∷ plain 15 0 ∷ ended 0 0 1 ∷
+    [])
+
+pub plain-line-of-the-first-rank-ended-is-unsound : sound plain-line-of-the-first-rank-ended ≡ false
+unfolding openedPairs
+plain-line-of-the-first-rank-ended-is-unsound = pairs-unsound plain-line-of-the-first-rank-ended refl
+
 -- "plain stands on both sides or neither"
 abbrev pub plain-on-one-side : State
 plain-on-one-side = changed everything (plain 0 5 ∷ [])
@@ -178,6 +231,22 @@ pub plain-on-the-side-towards-the-last-rank-is-unsound : sound plain-on-the-side
 unfolding openedPairs
 plain-on-the-side-towards-the-last-rank-is-unsound = pairs-unsound plain-on-the-side-towards-the-last-rank refl
 
+-- "plain stands on both sides or neither"
+abbrev pub plain-on-the-side-of-the-first-rank-towards-the-last : State
+plain-on-the-side-of-the-first-rank-towards-the-last = changed everything (drawn 7 1 ∷ running 15 7 1 ∷ tables 15 7 1 ∷ plain 0 15 ∷ [])
+
+pub plain-on-the-side-of-the-first-rank-towards-the-last-is-unsound : sound plain-on-the-side-of-the-first-rank-towards-the-last ≡ false
+unfolding openedPairs
+plain-on-the-side-of-the-first-rank-towards-the-last-is-unsound = pairs-unsound plain-on-the-side-of-the-first-rank-towards-the-last refl
+
+-- "plain stands on both sides or neither"
+abbrev pub plain-on-the-side-of-the-last-rank-towards-the-first : State
+plain-on-the-side-of-the-last-rank-towards-the-first = changed everything (drawn 7 1 ∷ running 15 7 1 ∷ tables 15 7 1 ∷ plain 15 0 ∷ [])
+
+pub plain-on-the-side-of-the-last-rank-towards-the-first-is-unsound : sound plain-on-the-side-of-the-last-rank-towards-the-first ≡ false
+unfolding openedPairs
+plain-on-the-side-of-the-last-rank-towards-the-first-is-unsound = pairs-unsound plain-on-the-side-of-the-last-rank-towards-the-first refl
+
 -- "a notice faces none"
 abbrev pub notice-faces-plain : State
 notice-faces-plain = changed everything (plain 1 0 ∷ [])
@@ -203,6 +272,16 @@ notice-faces-notice-of-the-last-rank =
 pub notice-faces-notice-of-the-last-rank-is-unsound : sound notice-faces-notice-of-the-last-rank ≡ false
 unfolding openedPairs
 notice-faces-notice-of-the-last-rank-is-unsound = pairs-unsound notice-faces-notice-of-the-last-rank refl
+
+-- "a notice faces none"
+abbrev pub notice-faces-notice-of-the-first-and-the-last-rank : State
+notice-faces-notice-of-the-first-and-the-last-rank =
+    changed everything
+    (drawn 7 3 ∷ moving 0 0 1 7 1 ∷ moving 15 7 2 7 3 ∷ tables 15 7 2 ∷ notice 0 15 ∷ unheeded 15 0 ∷ notice 15 0 ∷ unheeded 0 15 ∷ [])
+
+pub notice-faces-notice-of-the-first-and-the-last-rank-is-unsound : sound notice-faces-notice-of-the-first-and-the-last-rank ≡ false
+unfolding openedPairs
+notice-faces-notice-of-the-first-and-the-last-rank-is-unsound = pairs-unsound notice-faces-notice-of-the-first-and-the-last-rank refl
 
 -- "Awaits belong to moving ranks"
 abbrev pub marked-await-of-a-running-rank : State
@@ -260,6 +339,14 @@ pub unheeded-await-of-an-unstarted-rank-is-unsound : sound unheeded-await-of-an-
 unfolding openedPairs
 unheeded-await-of-an-unstarted-rank-is-unsound = pairs-unsound unheeded-await-of-an-unstarted-rank refl
 
+-- "Awaits belong to moving ranks"
+abbrev pub marked-await-of-the-first-rank-from-the-last : State
+marked-await-of-the-first-rank-from-the-last = changed everything (drawn 7 1 ∷ running 15 7 1 ∷ tables 15 7 1 ∷ marked 0 15 ∷ [])
+
+pub marked-await-of-the-first-rank-from-the-last-is-unsound : sound marked-await-of-the-first-rank-from-the-last ≡ false
+unfolding openedPairs
+marked-await-of-the-first-rank-from-the-last-is-unsound = pairs-unsound marked-await-of-the-first-rank-from-the-last refl
+
 -- "[Awaits] .. from started ranks"
 abbrev pub marked-await-from-a-running-rank : State
 marked-await-from-a-running-rank = changed everything (marked 6 5 ∷ [])
@@ -299,6 +386,34 @@ marked-await-from-the-last-rank = changed everything (marked 6 15 ∷ [])
 pub marked-await-from-the-last-rank-is-unsound : sound marked-await-from-the-last-rank ≡ false
 unfolding openedPairs
 marked-await-from-the-last-rank-is-unsound = pairs-unsound marked-await-from-the-last-rank refl
+
+-- "[Awaits] .. from started ranks"
+abbrev pub marked-awaits-of-the-first-and-the-last-rank : State
+marked-awaits-of-the-first-and-the-last-rank =
+    changed everything
+    (drawn 7 3 ∷ moving 0 0 1 7 1 ∷ moving 15 7 2 7 3 ∷ tables 15 7 2 ∷ marked 0 15 ∷ marked 15 0 ∷ [])
+
+pub marked-awaits-of-the-first-and-the-last-rank-is-sound : sound marked-awaits-of-the-first-and-the-last-rank ≡ true
+unfolding openedSound
+marked-awaits-of-the-first-and-the-last-rank-is-sound = refl
+
+-- "[Awaits] .. from started ranks"
+abbrev pub await-of-the-first-rank-from-the-last-unstarted : State
+await-of-the-first-rank-from-the-last-unstarted = changed everything (drawn 7 1 ∷ moving 0 0 1 7 1 ∷ marked 0 15 ∷ [])
+
+pub await-of-the-first-rank-from-the-last-unstarted-is-unsound : sound await-of-the-first-rank-from-the-last-unstarted ≡ false
+unfolding openedPairs
+await-of-the-first-rank-from-the-last-unstarted-is-unsound = pairs-unsound await-of-the-first-rank-from-the-last-unstarted refl
+
+-- "[Awaits] .. from started ranks"
+abbrev pub await-of-the-last-rank-from-the-first-unstarted : State
+await-of-the-last-rank-from-the-first-unstarted =
+    changed everything
+    (fresh ∷ drawn 7 2 ∷ moving 15 7 1 7 2 ∷ tables 15 7 1 ∷ marked 15 0 ∷ [])
+
+pub await-of-the-last-rank-from-the-first-unstarted-is-unsound : sound await-of-the-last-rank-from-the-first-unstarted ≡ false
+unfolding openedPairs
+await-of-the-last-rank-from-the-first-unstarted-is-unsound = pairs-unsound await-of-the-last-rank-from-the-first-unstarted refl
 
 -- "r's await of s is unheeded exactly when s's line to r is notice"
 abbrev pub unheeded-without-a-line : State
@@ -356,6 +471,78 @@ pub notice-of-the-last-rank-without-an-await-is-unsound : sound notice-of-the-la
 unfolding openedPairs
 notice-of-the-last-rank-without-an-await-is-unsound = pairs-unsound notice-of-the-last-rank-without-an-await refl
 
+-- "r's await of s is unheeded exactly when s's line to r is notice"
+abbrev pub unheeded-await-of-the-first-rank-from-the-last : State
+unheeded-await-of-the-first-rank-from-the-last =
+    changed everything
+    (drawn 7 3 ∷ moving 0 0 1 7 1 ∷ moving 15 7 2 7 3 ∷ tables 15 7 2 ∷ notice 15 0 ∷ unheeded 0 15 ∷ [])
+
+pub unheeded-await-of-the-first-rank-from-the-last-is-sound : sound unheeded-await-of-the-first-rank-from-the-last ≡ true
+unfolding openedSound
+unheeded-await-of-the-first-rank-from-the-last-is-sound = refl
+
+-- "r's await of s is unheeded exactly when s's line to r is notice"
+abbrev pub unheeded-await-of-the-last-rank-from-the-first : State
+unheeded-await-of-the-last-rank-from-the-first =
+    changed everything
+    (drawn 7 2 ∷ moving 15 7 1 7 2 ∷ tables 15 7 1 ∷ notice 0 15 ∷ unheeded 15 0 ∷ [])
+
+pub unheeded-await-of-the-last-rank-from-the-first-is-sound : sound unheeded-await-of-the-last-rank-from-the-first ≡ true
+unfolding openedSound
+unheeded-await-of-the-last-rank-from-the-first-is-sound = refl
+
+-- "r's await of s is unheeded exactly when s's line to r is notice"
+abbrev pub unheeded-of-the-first-rank-without-a-line-of-the-last : State
+unheeded-of-the-first-rank-without-a-line-of-the-last =
+    changed everything
+    (drawn 7 2 ∷ moving 0 0 1 7 1 ∷ running 15 7 2 ∷ tables 15 7 2 ∷ unheeded 0 15 ∷ [])
+
+pub unheeded-of-the-first-rank-without-a-line-of-the-last-is-unsound : sound unheeded-of-the-first-rank-without-a-line-of-the-last ≡ false
+unfolding openedPairs
+unheeded-of-the-first-rank-without-a-line-of-the-last-is-unsound = pairs-unsound unheeded-of-the-first-rank-without-a-line-of-the-last refl
+
+-- "r's await of s is unheeded exactly when s's line to r is notice"
+abbrev pub unheeded-of-the-last-rank-without-a-line-of-the-first : State
+unheeded-of-the-last-rank-without-a-line-of-the-first =
+    changed everything
+    (drawn 7 2 ∷ moving 15 7 1 7 2 ∷ tables 15 7 1 ∷ unheeded 15 0 ∷ [])
+
+pub unheeded-of-the-last-rank-without-a-line-of-the-first-is-unsound : sound unheeded-of-the-last-rank-without-a-line-of-the-first ≡ false
+unfolding openedPairs
+unheeded-of-the-last-rank-without-a-line-of-the-first-is-unsound = pairs-unsound unheeded-of-the-last-rank-without-a-line-of-the-first refl
+
+-- "r's await of s is unheeded exactly when s's line to r is notice"
+abbrev pub notice-of-the-first-rank-to-the-last-without-an-await : State
+notice-of-the-first-rank-to-the-last-without-an-await = changed everything (drawn 7 1 ∷ running 15 7 1 ∷ tables 15 7 1 ∷ notice 0 15 ∷ [])
+
+pub notice-of-the-first-rank-to-the-last-without-an-await-is-unsound : sound notice-of-the-first-rank-to-the-last-without-an-await ≡ false
+unfolding openedPairs
+notice-of-the-first-rank-to-the-last-without-an-await-is-unsound = pairs-unsound notice-of-the-first-rank-to-the-last-without-an-await refl
+
+-- "r's await of s is unheeded exactly when s's line to r is notice"
+abbrev pub notice-of-the-last-rank-to-the-first-without-an-await : State
+notice-of-the-last-rank-to-the-first-without-an-await = changed everything (drawn 7 1 ∷ running 15 7 1 ∷ tables 15 7 1 ∷ notice 15 0 ∷ [])
+
+pub notice-of-the-last-rank-to-the-first-without-an-await-is-unsound : sound notice-of-the-last-rank-to-the-first-without-an-await ≡ false
+unfolding openedPairs
+notice-of-the-last-rank-to-the-first-without-an-await-is-unsound = pairs-unsound notice-of-the-last-rank-to-the-first-without-an-await refl
+
+-- "r's await of s is unheeded exactly when s's line to r is notice"
+abbrev pub notice-to-an-ended-rank : State
+notice-to-an-ended-rank = changed everything (notice 3 4 ∷ [])
+
+pub notice-to-an-ended-rank-is-unsound : sound notice-to-an-ended-rank ≡ false
+unfolding openedPairs
+notice-to-an-ended-rank-is-unsound = pairs-unsound notice-to-an-ended-rank refl
+
+-- "r's await of s is unheeded exactly when s's line to r is notice"
+abbrev pub notice-to-an-unstarted-rank : State
+notice-to-an-unstarted-rank = changed everything (notice 3 14 ∷ [])
+
+pub notice-to-an-unstarted-rank-is-unsound : sound notice-to-an-unstarted-rank ≡ false
+unfolding openedPairs
+notice-to-an-unstarted-rank-is-unsound = pairs-unsound notice-to-an-unstarted-rank refl
+
 -- "Calls go from a running rank"
 abbrev pub call-of-a-moving-rank : State
 call-of-a-moving-rank = changed everything (call 1 3 3 1 ∷ [])
@@ -387,6 +574,22 @@ call-of-the-last-rank = changed everything (call 15 3 3 1 ∷ [])
 pub call-of-the-last-rank-is-unsound : sound call-of-the-last-rank ≡ false
 unfolding openedPairs
 call-of-the-last-rank-is-unsound = pairs-unsound call-of-the-last-rank refl
+
+-- "Calls go from a running rank"
+abbrev pub call-of-the-first-rank-moving : State
+call-of-the-first-rank-moving = changed everything (drawn 7 2 ∷ moving 0 0 1 7 1 ∷ running 15 7 2 ∷ tables 15 7 2 ∷ call 0 15 7 2 ∷ [])
+
+pub call-of-the-first-rank-moving-is-unsound : sound call-of-the-first-rank-moving ≡ false
+unfolding openedPairs
+call-of-the-first-rank-moving-is-unsound = pairs-unsound call-of-the-first-rank-moving refl
+
+-- "Calls go from a running rank"
+abbrev pub call-of-the-last-rank-unstarted-to-the-first : State
+call-of-the-last-rank-unstarted-to-the-first = changed everything (call 15 0 0 1 ∷ [])
+
+pub call-of-the-last-rank-unstarted-to-the-first-is-unsound : sound call-of-the-last-rank-unstarted-to-the-first ≡ false
+unfolding openedPairs
+call-of-the-last-rank-unstarted-to-the-first-is-unsound = pairs-unsound call-of-the-last-rank-unstarted-to-the-first refl
 
 -- "[Calls go] .. to a started rank"
 abbrev pub calls-that-cross : State
@@ -436,6 +639,22 @@ pub call-to-the-last-rank-is-unsound : sound call-to-the-last-rank ≡ false
 unfolding openedPairs
 call-to-the-last-rank-is-unsound = pairs-unsound call-to-the-last-rank refl
 
+-- "[Calls go] .. to a started rank"
+abbrev pub call-of-the-first-rank-to-the-last-unstarted : State
+call-of-the-first-rank-to-the-last-unstarted = changed everything (call 0 15 0 1 ∷ [])
+
+pub call-of-the-first-rank-to-the-last-unstarted-is-unsound : sound call-of-the-first-rank-to-the-last-unstarted ≡ false
+unfolding openedPairs
+call-of-the-first-rank-to-the-last-unstarted-is-unsound = pairs-unsound call-of-the-first-rank-to-the-last-unstarted refl
+
+-- "[Calls go] .. to a started rank"
+abbrev pub call-of-the-last-rank-to-the-first-unstarted : State
+call-of-the-last-rank-to-the-first-unstarted = changed everything (fresh ∷ drawn 7 2 ∷ running 15 7 1 ∷ tables 15 7 1 ∷ call 15 0 7 2 ∷ [])
+
+pub call-of-the-last-rank-to-the-first-unstarted-is-unsound : sound call-of-the-last-rank-to-the-first-unstarted ≡ false
+unfolding openedPairs
+call-of-the-last-rank-to-the-first-unstarted-is-unsound = pairs-unsound call-of-the-last-rank-to-the-first-unstarted refl
+
 -- "[Calls go] .. to which it has no line"
 abbrev pub call-of-a-rank-with-other-lines : State
 call-of-a-rank-with-other-lines = changed everything (call 0 5 0 2 ∷ [])
@@ -459,3 +678,23 @@ call-along-a-notice-line = changed everything (call 0 1 1 1 ∷ [])
 pub call-along-a-notice-line-is-unsound : sound call-along-a-notice-line ≡ false
 unfolding openedPairs
 call-along-a-notice-line-is-unsound = pairs-unsound call-along-a-notice-line refl
+
+-- "[Calls go] .. to which it has no line"
+abbrev pub call-of-the-first-rank-along-a-line-to-the-last : State
+call-of-the-first-rank-along-a-line-to-the-last =
+    changed everything
+    (drawn 7 1 ∷ running 15 7 1 ∷ tables 15 7 1 ∷ plain 0 15 ∷ plain 15 0 ∷ call 0 15 7 1 ∷ [])
+
+pub call-of-the-first-rank-along-a-line-to-the-last-is-unsound : sound call-of-the-first-rank-along-a-line-to-the-last ≡ false
+unfolding openedPairs
+call-of-the-first-rank-along-a-line-to-the-last-is-unsound = pairs-unsound call-of-the-first-rank-along-a-line-to-the-last refl
+
+-- "[Calls go] .. to which it has no line"
+abbrev pub call-of-the-last-rank-along-a-line-to-the-first : State
+call-of-the-last-rank-along-a-line-to-the-first =
+    changed everything
+    (drawn 7 1 ∷ running 15 7 1 ∷ tables 15 7 1 ∷ plain 0 15 ∷ plain 15 0 ∷ call 15 0 0 1 ∷ [])
+
+pub call-of-the-last-rank-along-a-line-to-the-first-is-unsound : sound call-of-the-last-rank-along-a-line-to-the-first ≡ false
+unfolding openedPairs
+call-of-the-last-rank-along-a-line-to-the-first-is-unsound = pairs-unsound call-of-the-last-rank-along-a-line-to-the-first refl

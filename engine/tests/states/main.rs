@@ -1,9 +1,14 @@
 //! The list of sound and unsound states, `crates/test_spoiled/stdin`: the second
 //! engine answers every state of it, and the theorems of `crates/test_worked` and
-//! the expected output of the program `test_spoiled` are written from it.
+//! the expected output of the program `test_spoiled` are written from it. The
+//! engine and the program answer its states renumbered as well.
 
 mod built;
+mod ends;
 mod list;
+#[path = "../shared/proved_program.rs"]
+mod proved_program;
+mod renumbered;
 mod theorems;
 
 use engine::{broken_clauses, is_sound, step, Clause, Outcome, Refusal};
@@ -83,12 +88,11 @@ fn no_two_states_are_the_same() {
 #[test]
 fn what_is_written_from_the_list_is_current() {
     let states = states();
-    let printed: String = states
-        .iter()
-        .map(|listed| format!("{} {}\n", listed.name, listed.verdict()))
-        .collect();
     let mut files = theorems::files(&states);
-    files.push(("crates/test_spoiled/stdout".to_string(), printed));
+    files.push((
+        "crates/test_spoiled/stdout".to_string(),
+        list::printed(&states),
+    ));
     for (file, text) in files {
         let path = format!("{ROOT}/{file}");
         if std::env::var_os("WRITE_STATES").is_some() {

@@ -1,17 +1,12 @@
 //! The theorems of `crates/test_worked`: for each section of the list a file, and in
 //! it for each state a definition and a theorem, computed from the definition
 //! of soundness. An unsound state is computed in the clauses of its section.
+//! A section under three marks, `###`, has no theorems.
 
-use crate::list::Listed;
+use crate::list::{Listed, WORDS};
 
 /// The longest line of a file.
 const WIDTH: usize = 140;
-
-/// The words of a change, as `specs/Words.antt` has them.
-const WORDS: [&str; 16] = [
-    "fresh", "running", "moving", "ended", "drawn", "table", "tables", "call", "plain", "notice",
-    "unheeded", "marked", "message", "messages", "numbered", "sent",
-];
 
 /// The path and the text of each file.
 pub fn files(states: &[Listed]) -> Vec<(String, String)> {
@@ -21,7 +16,8 @@ pub fn files(states: &[Listed]) -> Vec<(String, String)> {
         let path = format!("crates/test_worked/specs/{}.antt", group[0].section);
         (path, theorems(group, first))
     };
-    sections.map(file).collect()
+    let computed = |group: &&[Listed]| group[0].computed;
+    sections.filter(computed).map(file).collect()
 }
 
 fn theorems(group: &[Listed], first: &Listed) -> String {
@@ -55,7 +51,10 @@ fn imports(group: &[Listed], first: &Listed) -> Vec<String> {
         "mathlib.Core.Path.{_≡_, refl}".to_string(),
         format!("mathlib.Core.Bool.{{{}}}", values.join(", ")),
         "mathlib.Core.List.{[], _∷_}".to_string(),
-        format!("Rattle.protocol.specs.Laws.Opened.{{{}}}", opened.join(", ")),
+        format!(
+            "Rattle.protocol.specs.Laws.Opened.{{{}}}",
+            opened.join(", ")
+        ),
         "Rattle.protocol.specs.Sound.{sound}".to_string(),
     ];
     if starts {
@@ -70,13 +69,15 @@ fn imports(group: &[Listed], first: &Listed) -> Vec<String> {
     }
     if !starts {
         let (section, name) = (&first.section, &first.name);
-        imports.push(format!("Rattle.test_worked.specs.{section}.{{{name}}}"));
+        imports.push(format!(
+            "Rattle.test_worked.specs.{section}.{{{name}}}"
+        ));
     }
-    let used = |word: &&&str| {
+    let used = |word: &&str| {
         let uses = |change: &String| change.split(' ').next() == Some(word);
         group.iter().any(|listed| listed.changes.iter().any(uses))
     };
-    let words = WORDS.iter().filter(used).copied();
+    let words = WORDS.iter().map(|&(word, _)| word).filter(used);
     let words: Vec<&str> = ["changed"].into_iter().chain(words).collect();
     imports.push(named("Rattle.test_worked.specs.Words", &words));
     imports
