@@ -3,8 +3,9 @@ use mathlib.Core.Path.{_≡_, refl, _∙_}
 use mathlib.Core.List.{List, [], _∷_, _++_}
 use Prim.Native.Nat.{ℕ, suc, _+_, _≤_}
 use native.Mathlib.Nat.{zero-add}
+use native.Mathlib.Numerals.{add-one}
 use native.Mathlib.Omega.{arith}
-use lib.ListN.{length, take, drop, set, length-append}
+use lib.ListN.{length, take, drop, set, length-append, length-set}
 use lib.Seq.{sets, sets-eq, take-at, length-take-le}
 use Rattle.print_page.specs.Put.{Put}
 
@@ -31,6 +32,10 @@ module _ {page : List ℕ} {used : ℕ} where
   -- No text leaves the page as it was.
   pub nothing : Put 0 page used [] page used
   nothing = record { holds = refl; ends = omega arith; within = omega arith; room = refl }
+
+  -- Two bytes, one stored behind the other, are a text of two.
+  pub two-bytes : {a b x y : ℕ} → a ≡ x → b ≡ y → Put 2 page used (x ∷ y ∷ []) (set (set page used a) (used + 1) b) (used + 2)
+  two-bytes e f = record { holds = rw (e, f, add-one); ends = refl; within = omega arith; room = rw (length-set, length-set) }
 
   module _ {m : ℕ} {text after : List ℕ} {end : ℕ} (p : Put m page used text after end) where
     -- A bound may be any that is no less.
