@@ -24,6 +24,14 @@ hex n = digit (n / 16) ∷ digit (n % 16) ∷ []
 abbrev pub twoDigits : ℕ → List ℕ
 twoDigits n = (48 + n / 10) ∷ (48 + n % 10) ∷ []
 
+-- a number below 10^4 in four decimal digits
+abbrev pub fourDigits : ℕ → List ℕ
+fourDigits n = twoDigits (n / 100) ++ twoDigits (n % 100)
+
+-- a number below 10^8 in eight decimal digits
+abbrev pub eightDigits : ℕ → List ℕ
+eightDigits n = fourDigits (n / 10000) ++ fourDigits (n % 10000)
+
 -- "decimal": one digit, or the digits of a tenth and then the last one; there are no more digits than the first number says
 abbrev pub decimalWithin : ℕ → ℕ → List ℕ
 decimalWithin zero n = []

@@ -2,62 +2,97 @@
 // Paper 01, "The printed run".
 ghost use mathlib.Core.Path.{_≡_};
 ghost use mathlib.Core.List.{_∷_, []};
-ghost use Prim.Native.Nat.{_+_, _≤_, _<_};
+ghost use Prim.Native.Nat.{_+_, _^_, _≤_, _<_};
 ghost use lib.ListN.{length};
-ghost use lib.Seq.{sets};
 ghost use Rattle.print_page.specs.Put.{Put};
-ghost use Rattle.print_page.specs.Text.{decimal, digit, hex, numbers, space, twoDigits};
+ghost use Rattle.print_page.specs.Text.{decimal, digit, eightDigits, fourDigits, hex, numbers, space, twoDigits};
 
-// How many digits a number has, by four at a time.
-fn width(n: u64) -> usize
-    ensures { λ r. ⌜ r ≡ length (decimal n) ⌝ }
+// A number below 100 in two digits: both as one number of 16 bits, so that they are stored at once.
+fn put_two_digits(page: &mut [u8], used: usize, n: u64) -> usize
+    requires { ⌜ (n < 100) × (used + 2 ≤ length (now page)) ⌝ }
+    ensures { λ r. ⌜ Put 2 (now (page .entry)) used (twoDigits n) (now (page .exit)) r ⌝ }
 {
-    let mut k: usize = 0;
-    let mut rest = n;
-    while rest >= 10000 {
-        rest /= 10000;
-        k += 4;
-    }
-    if rest < 10 {
-        return k + 1;
-    }
-    if rest < 100 {
-        return k + 2;
-    }
-    if rest < 1000 {
-        return k + 3;
-    }
-    k + 4
+    let pair = 48 + n / 10 + 256 * (48 + n % 10);
+    page[used] = (pair % 256) as u8;
+    page[used + 1] = (pair / 256) as u8;
+    used + 2
 }
 
-// A number below 100 in two digits.
-fn put_two_digits(page: &mut [u8], at: usize, n: u64)
-    requires { ⌜ (n < 100) × (at + 2 ≤ length (now page)) ⌝ }
-    ensures { λ _. ⌜ now (page .exit) ≡ sets (now (page .entry)) at (twoDigits n) ⌝ }
+// A number below 10^4 in four digits.
+fn put_four_digits(page: &mut [u8], used: usize, n: u64) -> usize
+    requires { ⌜ (n < 10 ^ 4) × (used + 4 ≤ length (now page)) ⌝ }
+    ensures { λ r. ⌜ Put 4 (now (page .entry)) used (fourDigits n) (now (page .exit)) r ⌝ }
 {
-    page[at] = b'0' + (n / 10) as u8;
-    page[at + 1] = b'0' + (n % 10) as u8;
+    let half = put_two_digits(page, used, n / 100);
+    put_two_digits(page, half, n % 100)
 }
 
-// A number in decimal, its digits from the end, two at a time.
+// A number below 10^8 in eight digits.
+fn put_eight_digits(page: &mut [u8], used: usize, n: u64) -> usize
+    requires { ⌜ (n < 10 ^ 8) × (used + 8 ≤ length (now page)) ⌝ }
+    ensures { λ r. ⌜ Put 8 (now (page .entry)) used (eightDigits n) (now (page .exit)) r ⌝ }
+{
+    let half = put_four_digits(page, used, n / 10000);
+    put_four_digits(page, half, n % 10000)
+}
+
+// A number below 100 in decimal: one digit or two.
+fn put_up_to_two_digits(page: &mut [u8], used: usize, n: u64) -> usize
+    requires { ⌜ (n < 100) × (used + 2 ≤ length (now page)) ⌝ }
+    ensures { λ r. ⌜ Put 2 (now (page .entry)) used (decimal n) (now (page .exit)) r ⌝ }
+{
+    if n < 10 {
+        return put_byte(page, used, b'0' + n as u8);
+    }
+    put_two_digits(page, used, n)
+}
+
+// A number below 10^4 in decimal: its last two digits behind what stands before them.
+fn put_up_to_four_digits(page: &mut [u8], used: usize, n: u64) -> usize
+    requires { ⌜ (n < 10 ^ 4) × (used + 4 ≤ length (now page)) ⌝ }
+    ensures { λ r. ⌜ Put 4 (now (page .entry)) used (decimal n) (now (page .exit)) r ⌝ }
+{
+    if n < 100 {
+        return put_up_to_two_digits(page, used, n);
+    }
+    let at = put_up_to_two_digits(page, used, n / 100);
+    put_two_digits(page, at, n % 100)
+}
+
+// A number below 10^8 in decimal: its last four digits behind what stands before them.
+fn put_up_to_eight_digits(page: &mut [u8], used: usize, n: u64) -> usize
+    requires { ⌜ (n < 10 ^ 8) × (used + 8 ≤ length (now page)) ⌝ }
+    ensures { λ r. ⌜ Put 8 (now (page .entry)) used (decimal n) (now (page .exit)) r ⌝ }
+{
+    if n < 10000 {
+        return put_up_to_four_digits(page, used, n);
+    }
+    let at = put_up_to_four_digits(page, used, n / 10000);
+    put_four_digits(page, at, n % 10000)
+}
+
+// A number below 10^12 in decimal: its last eight digits behind what stands before them.
+fn put_up_to_twelve_digits(page: &mut [u8], used: usize, n: u64) -> usize
+    requires { ⌜ (n < 10 ^ 12) × (used + 12 ≤ length (now page)) ⌝ }
+    ensures { λ r. ⌜ Put 12 (now (page .entry)) used (decimal n) (now (page .exit)) r ⌝ }
+{
+    if n < 100000000 {
+        return put_up_to_eight_digits(page, used, n);
+    }
+    let at = put_up_to_four_digits(page, used, n / 100000000);
+    put_eight_digits(page, at, n % 100000000)
+}
+
+// A number in decimal: its last eight digits behind the twelve at most that a number of 64 bits has before them.
 pub fn put_decimal(page: &mut [u8], used: usize, n: u64) -> usize
     requires { ⌜ used + 20 ≤ length (now page) ⌝ }
     ensures { λ r. ⌜ Put 20 (now (page .entry)) used (decimal n) (now (page .exit)) r ⌝ }
 {
-    let end = used + width(n);
-    let mut at = end;
-    let mut rest = n;
-    while rest >= 100 {
-        at -= 2;
-        put_two_digits(page, at, rest % 100);
-        rest /= 100;
+    if n < 100000000 {
+        return put_up_to_eight_digits(page, used, n);
     }
-    if rest >= 10 {
-        put_two_digits(page, used, rest);
-    } else {
-        page[used] = b'0' + rest as u8;
-    }
-    end
+    let at = put_up_to_twelve_digits(page, used, n / 100000000);
+    put_eight_digits(page, at, n % 100000000)
 }
 
 // A hexadecimal digit, upper case.

@@ -1,11 +1,12 @@
--- Laws of texts on a page: one text behind another, the end of a text first, and what a page then shows. Assumes nothing.
-use mathlib.Core.Path.{_≡_, refl, sym, _∙_}
+-- Laws of texts on a page: one text behind another, and what a page then shows. Assumes nothing.
+use mathlib.Core.Path.{_≡_, refl, _∙_}
 use mathlib.Core.List.{List, [], _∷_, _++_}
 use Prim.Native.Nat.{ℕ, suc, _+_, _≤_}
 use native.Mathlib.Nat.{zero-add}
+use native.Mathlib.Numerals.{add-one}
 use native.Mathlib.Omega.{arith}
-use lib.ListN.{length, take, drop, set, length-append}
-use lib.Seq.{sets, sets-eq, set-comm, take-at, length-take-le}
+use lib.ListN.{length, take, drop, set, length-append, length-set}
+use lib.Seq.{sets, sets-eq, take-at, length-take-le}
 use Rattle.print_page.specs.Put.{Put}
 
 -- One text behind another is both as one text.
@@ -14,20 +15,6 @@ sets-append l i [] ys = let same : i + 0 ≡ i = omega arith in rw same
 sets-append l i (x ∷ xs) ys =
     let same : i + suc (length xs) ≡ suc i + length xs = omega arith in
     rw same (sets-append (set l i x) (suc i) xs ys)
-
--- A byte behind a text may be put before it.
-sets-set : (l : List ℕ) (i j x : ℕ) (xs : List ℕ) → i + length xs ≤ j → set (sets l i xs) j x ≡ sets (set l j x) i xs
-sets-set l i j x [] h = refl
-sets-set l i j x (y ∷ xs) h = rw (sets-set (set l i y) (suc i) j x xs (omega arith), set-comm l i j y x (λ e. omega arith))
-
--- A text behind another may be put before it.
-sets-sets : (l : List ℕ) (i j : ℕ) (xs ys : List ℕ) → i + length xs ≤ j → sets (sets l i xs) j ys ≡ sets (sets l j ys) i xs
-sets-sets l i j xs [] h = refl
-sets-sets l i j xs (y ∷ ys) h = rw (sets-set l i j y xs h) (sets-sets (set l j y) i (suc j) xs ys (omega arith))
-
--- The end of a text may be put first.
-pub end-first : (l : List ℕ) (i : ℕ) (xs ys : List ℕ) → sets (sets l (i + length xs) ys) i xs ≡ sets l i (xs ++ ys)
-end-first l i xs ys = sym (sets-sets l i (i + length xs) xs ys (omega arith)) ∙ sets-append l i xs ys
 
 module _ {page : List ℕ} {used : ℕ} where
   infixl 20 _then_
@@ -45,6 +32,10 @@ module _ {page : List ℕ} {used : ℕ} where
   -- No text leaves the page as it was.
   pub nothing : Put 0 page used [] page used
   nothing = record { holds = refl; ends = omega arith; within = omega arith; room = refl }
+
+  -- Two bytes, one stored behind the other, are a text of two.
+  pub two-bytes : {a b x y : ℕ} → a ≡ x → b ≡ y → Put 2 page used (x ∷ y ∷ []) (set (set page used a) (used + 1) b) (used + 2)
+  two-bytes e f = record { holds = rw (e, f, add-one); ends = refl; within = omega arith; room = rw (length-set, length-set) }
 
   module _ {m : ℕ} {text after : List ℕ} {end : ℕ} (p : Put m page used text after end) where
     -- A bound may be any that is no less.
