@@ -17,7 +17,7 @@ use Rattle.answer.specs.declared.Refusal.{Refusal}
 use Rattle.answer.specs.declared.Refusal.the-variants.{Unsound, UnknownKind, CutShort}
 use Rattle.base.specs.Lists.{every, select, upFrom}
 use Rattle.broker.specs.Names
-use Rattle.broker.specs.State.{State, fresh, status, request, drawnOn, messages}
+use Rattle.broker.specs.State.{State, fresh, status, request, drawnOn, messages, nextVmid}
 use Rattle.desk.specs.Look.{nameFor}
 use Rattle.generator.specs.Answer.{makes}
 use Rattle.generator.specs.Laws.Answer.{equal-seeds, in-two-parts}
@@ -50,7 +50,7 @@ use Rattle.print_page.specs.Ascii.{asciiLines}
 use Rattle.print_run.specs.Laws.Pieces.{run-in-pieces, printed-in-pieces}
 use Rattle.print_run.specs.Laws.Readings.{readings, readings-run}
 use Rattle.print_run.specs.Laws.Steps.{same-state}
-use Rattle.print_run.specs.Listing.{listing-prints}
+use Rattle.print_run.specs.Listing.{listing-prints, listing-in-pieces}
 use Rattle.print_run.specs.Pieces.{Turn, allBytes, inPieces}
 use Rattle.print_run.specs.Printed.{printed, textOf}
 use Rattle.print_run.specs.Run.{Answered, Came, Naming, runLog}
@@ -62,7 +62,10 @@ use Rattle.print_turn.specs.Turn.{bufferRoom, farthest, longest, Shows}
 use Rattle.print_turn.specs.declared.Next.the-variants.{End}
 use Rattle.print_turn.specs.declared.Turned.{Turned}
 use Rattle.protocol.specs.Checks.{Check, checks, refusal}
+use Rattle.protocol.specs.Edges
+use Rattle.protocol.specs.Edges.{holds}
 use Rattle.protocol.specs.Laws.Checks.{given-is-first, first-is-given}
+use Rattle.protocol.specs.Laws.Edges.{edges-hold}
 use Rattle.protocol.specs.Laws.Restart.{
   never-eighteen,
   like-any-other,
@@ -72,10 +75,12 @@ use Rattle.protocol.specs.Laws.Restart.{
   restart-carried-out,
 }
 use Rattle.protocol.specs.Laws.Step.{step-refused, step-accepted, step-of-sound, step-keeps-sound}
+use Rattle.protocol.specs.Laws.Values.{values-hold}
 use Rattle.protocol.specs.Messages.{unreadBetween, sentBetween}
 use Rattle.protocol.specs.Migrate
 use Rattle.protocol.specs.Sound.{sound}
 use Rattle.protocol.specs.Step.{Outcome, apply, step, stepSound, settle}
+use Rattle.protocol.specs.Values
 use Rattle.protocol.specs.Worked.Spent.{rows-in-order}
 use Rattle.record.specs.Laws.Record.{at-end, no-kind, cut-short, whole, value-back}
 use Rattle.record.specs.Record.{isKind, bodyLength, bodyAt, recordOf, decode, valueOf, bytesOf}
@@ -267,6 +272,7 @@ module _ (xs : List Reading) where
 -- Paper 02, change 2: "A move to the rank's present host is accepted and draws a number like any other."
 pub restart : (s : State) (r : Rank) (v : Vmid) → sound s ≡ true → r .0 < 16 → status s r ≡ Running v →
     (v .1 < drawnOn s (v .0) + 1) ×
+    (Names.sameVmid v (nextVmid s (v .0)) ≡ false) ×
     (Names.isOpenRequest (request s r) ≡ false → drawnOn s (v .0) < 65535 →
     (refusal s (Move r (v .0)) ≡ none) ×
     ((named : Rank) (log : List ℕ) (at next : ℕ) → decode log at ≡ Whole (Move r (v .0)) next →
@@ -274,6 +280,7 @@ pub restart : (s : State) (r : Rank) (v : Vmid) → sound s ≡ true → r .0 < 
     record { answer = Accepted (Migrate.move r (v .0) s .values); next = next; state = Migrate.move r (v .0) s .state }))
 restart s r v ok in-range runs = (
   restart-draws s r v ok in-range runs,
+  restart-apart s r v ok in-range runs,
   λ idle room. (
     restart-accepted s r v ok in-range runs idle room,
     restart-carried-out s r v ok in-range runs idle room,
@@ -335,6 +342,25 @@ edges =
 pub edges-print : (named : Naming) → map (λ (r : Run). printed named fresh (r .log)) edges ≡ map (λ (r : Run). asciiLines (r .lines)) edges
 unfolding shown
 edges-print named = all-shown named edges
+
+-- The same cases step by step, each with what holds of the state at its end (`A` to `J` of protocol/specs/Edges.antt).
+pub edges-step-by-step :
+    (holds Edges.A ≡ true) × (holds Edges.B ≡ true) × (holds Edges.C ≡ true) × (holds Edges.D ≡ true) × (holds Edges.E ≡ true) ×
+    (holds Edges.F ≡ true) × (holds Edges.G ≡ true) × (holds Edges.G-lands ≡ true) × (holds Edges.H ≡ true) × (holds Edges.I ≡ true) ×
+    (holds Edges.J ≡ true)
+edges-step-by-step = (
+  edges-hold .case-A,
+  edges-hold .case-B,
+  edges-hold .case-C,
+  edges-hold .case-D,
+  edges-hold .case-E,
+  edges-hold .case-F,
+  edges-hold .case-G,
+  edges-hold .case-G-lands,
+  edges-hold .case-H,
+  edges-hold .case-I,
+  edges-hold .case-J,
+)
 
 -- "v1, v2, v3 are the answer's values; an unnamed one is 0": each kind in each way that it can go, from ranks 0 and 1 on host 5 and rank 2
 -- on host 6.
@@ -412,6 +438,30 @@ pub kinds-print :
 unfolding shown
 kinds-print = all-shown nameFor kinds-of-steps
 
+-- The same step by step, with more of the state at the end of each (protocol/specs/Values.antt).
+pub kinds-step-by-step :
+    (holds Values.start ≡ true) × (holds Values.call ≡ true) × (holds Values.route-there ≡ true) × (holds Values.route-on ≡ true) ×
+    (holds Values.route-to-ended ≡ true) × (holds Values.send ≡ true) × (holds Values.take ≡ true) × (holds Values.move ≡ true) ×
+    (holds Values.restart ≡ true) × (holds Values.heed ≡ true) × (holds Values.drain ≡ true) × (holds Values.land ≡ true) ×
+    (holds Values.part ≡ true) × (holds Values.end ≡ true) × (holds Values.look ≡ true)
+kinds-step-by-step = (
+  values-hold .of-start,
+  values-hold .of-call,
+  values-hold .of-route-there,
+  values-hold .of-route-on,
+  values-hold .of-route-to-ended,
+  values-hold .of-send,
+  values-hold .of-take,
+  values-hold .of-move,
+  values-hold .of-restart,
+  values-hold .of-heed,
+  values-hold .of-drain,
+  values-hold .of-land,
+  values-hold .of-part,
+  values-hold .of-end,
+  values-hold .of-look,
+)
+
 -- "For start 0 0, start 1 1, call 0 1, route 0 1, send 0 1 500, move 1 2, send 0 1 501, heed 0 1, call 0 1, route 0 1 twice, send 0 1 502,
 -- land 1, drain 1 0 three times, land 1, take 1 0", with the running numbers of paper 02, change 4
 abbrev pub listing : Run
@@ -424,6 +474,10 @@ listing =
 
 pub listing-prints-so : (named : Naming) → printed named fresh (listing .log) ≡ asciiLines (listing .lines)
 listing-prints-so = listing-prints
+
+pub listing-prints-so-in-any-pieces : (named : Naming) (ts : List Turn) → allBytes ts ≡ listing .log →
+    textOf (inPieces named 0 fresh [] ts) ≡ asciiLines (listing .lines)
+listing-prints-so-in-any-pieces = listing-in-pieces
 
 -- "Input may be of any length, read through at most 65,536 bytes": a log that is read in pieces of any lengths, and of which any number of
 -- records is run before more is read, prints the run of the whole.
