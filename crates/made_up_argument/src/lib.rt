@@ -73,7 +73,7 @@ pub fn number_in(text: &[u8], most: u64) -> Argument
     Argument::Number(n)
 }
 
-// What an argument says, of which the call that gives arguments gave the text, and 0 where that is all of it.
+// What an argument says, by what the call that gives arguments said, 0 where it gave all of it, and by what it gave.
 pub fn argument_of(error: i32, text: &[u8], most: u64) -> Argument
     ensures { λ r. ⌜ r ≡ argumentOf error most (now (text .entry)) ⌝ }
 {

@@ -14,7 +14,8 @@ unfolding decimal
 returns-2 c =
     let put = c .before .before in
     let refused = put .before .before .before in
-    let number = rw (refused .enum-told2 .given .1) at (refused .before .before .before .pre .0) in
+    let start = refused .before .before .before in
+    let number = rw (refused .enum-told2 .given .1) at (start .pre .0) in
     rw (refused .enum-told2 .given .1, number) (at-most (put .put-text .ensures) (omega arith))
 
 returns-3 : tie.Need-returns-3

@@ -8,18 +8,19 @@ use Rattle.made_up_plan.proofs.plan_of.Statement.{statement}
 use Rattle.made_up_plan.proofs.plan_of.Tie as tie
 
 returns : tie.Need-returns
-returns c = rw (lt-ltb _ _ (c .if1 .taken))
+returns c =
+    let given = c .before .before .before .args .given in
+    rw (lt-ltb 3 given (omega arith))
 
 returns-2 : tie.Need-returns-2
 returns-2 c =
     let given = c .before .before .before .before .args .given in
-    rw (le-ltb 3 given (c .before .if1 .left), lt-ltb given 2 (omega arith))
+    rw (le-ltb 3 given (omega arith), lt-ltb given 2 (omega arith))
 
 returns-3 : tie.Need-returns-3
 returns-3 c =
-    let some = c .before in
-    let given = some .before .before .before .before .args .given in
-    rw (le-ltb 3 given (some .before .if1 .left), le-ltb given 2 (omega arith), lt-ltb given 3 (omega arith))
+    let given = c .before .before .before .before .before .args .given in
+    rw (le-ltb 3 given (omega arith), le-ltb given 2 (omega arith), lt-ltb given 3 (omega arith))
 
 pass-of-requires : tie.Need-pass-of-requires
 pass-of-requires c κs =
