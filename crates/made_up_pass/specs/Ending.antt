@@ -5,6 +5,7 @@ use mathlib.Core.Logic.{_≢_}
 use mathlib.Core.Path.{_≡_}
 use Prim.Native.Nat.{ℕ}
 use lib.Dec.{eqb}
+use Rattle.generator_record.specs.MadeUp.{madeLog}
 use Rattle.print_page.specs.Ascii.{ascii}
 use Rattle.print_page.specs.Text.{decimal}
 use Rattle.made_up_pass.specs.Course.{Course}
@@ -27,12 +28,13 @@ Because p written (End Whole) = (p .number ≡ 0) × (written ≡ true) × (p .l
 Because p written (End (Refused number)) = (p .number ≢ 0) × (number ≡ p .number)
 Because p written (End Unwritten) = (p .number ≡ 0) × (written ≡ false)
 
--- every piece of the pass of a good seed was handed to the output, and no record is left
+-- every piece of the pass of a good seed was handed to the output, no record is left, and the pieces are the pass
 pub record Handed (seed count : ℕ) : Type 0 where
   pub good : seed ≢ 0
   pub word : ℕ
   pub written : List ℕ
   pub course : Course seed count word 0 written
+  pub pass : written ≡ madeLog count seed
 
 -- all is handed over; or "26 for seed zero", and no other refusal; or the output failed, of a pass that is not refused
 abbrev pub Ends : ℕ → ℕ → Ending → Type 0

@@ -15,6 +15,7 @@ use Rattle.generator.specs.Laws.MadeUp.{IsWord, leaves-word}
 use Rattle.made_up_pass.specs.Course.Course.{begun, further}
 use Rattle.made_up_pass.specs.Course.{Course}
 use Rattle.made_up_pass.specs.Ending.{nextOf, Because, Ends, Told}
+use Rattle.made_up_pass.specs.Laws.Course.{course-ends}
 use Rattle.made_up_pass.specs.Laws.Piece.{piece-records, piece-word}
 use Rattle.made_up_pass.specs.Piece.{pieceRoom, pieceRecords, Pieced}
 use Rattle.made_up_pass.specs.declared.Ending.{Ending}
@@ -70,12 +71,8 @@ module _ {seed count word left : ℕ} {written buffer after : List ℕ} {p : Pie
     (course : Course seed count word left written) (pieced : Pieced word left buffer p after) (room : pieceRoom ≤ length buffer) where
   pub ends-so : (done : Bool) (ending : Ending) → Because p done (End ending) → Ends seed count ending
   ends-so done Whole why =
-      record {
-        good = seed-good course pieced (why .0);
-        word = p .word;
-        written = _;
-        course = rw (why .2) at (further pieced (why .0) course);
-      }
+      let all = rw (why .2) at (further pieced (why .0) course) in
+      record { good = seed-good course pieced (why .0); word = p .word; written = _; course = all; pass = course-ends all }
   ends-so done (Refused number) why =
       let refused = refused-word pieced room (why .0) in
       (why .1 ∙ refused .0, seed-zero within course (refused .1))
