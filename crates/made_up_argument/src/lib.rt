@@ -3,7 +3,7 @@ ghost use mathlib.Core.Bool.{true};
 ghost use mathlib.Core.Path.{_≡_};
 ghost use Prim.Native.Nat.{_-_, _≤_};
 ghost use Rattle.base.specs.Lists.{every};
-ghost use Rattle.made_up_argument.specs.Argument.{isDigit, numberIn, Within};
+ghost use Rattle.made_up_argument.specs.Argument.{isDigit, numberIn, argumentOf};
 
 // What an argument says.
 pub enum Argument {
@@ -73,14 +73,12 @@ pub fn number_in(text: &[u8], most: u64) -> Argument
     Argument::Number(n)
 }
 
-// The number that the argument at a place gives, the program's own name being at 0.
-pub fn argument_at(at: usize, most: u64) -> Argument
-    ensures { λ r. ⌜ Within most r ⌝ }
+// What an argument says, by what the call that gives arguments said, 0 where it gave all of it, and by what it gave.
+pub fn argument_of(error: i32, text: &[u8], most: u64) -> Argument
+    ensures { λ r. ⌜ r ≡ argumentOf error most (now (text .entry)) ⌝ }
 {
-    let mut text = io::buffer();
-    let long = os::arg(at, &mut text);
-    if os::errno() != 0 {
+    if error != 0 {
         return Argument::Wrong(Fault::TooLong);
     }
-    number_in(&text[..long], most)
+    number_in(text, most)
 }

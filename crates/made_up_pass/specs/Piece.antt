@@ -21,6 +21,10 @@ pieceRoom = longest * pieceMost
 abbrev pub pieceRecords : ℕ → ℕ
 pieceRecords left = cond (ltb left pieceMost) left pieceMost
 
+-- before the first piece: it goes on from the seed, and all records are left
+abbrev pub noPiece : ℕ → ℕ → Piece
+noPiece seed count = record { number = 0; bytes = 0; word = seed; left = count }
+
 -- no bytes are made
 abbrev pub refusedPiece : ℕ → ℕ → Piece
 refusedPiece number left = record { number = number; bytes = 0; word = 0; left = left }

@@ -1,21 +1,34 @@
-// A made-up pass, written piece by piece through one buffer. Paper 02, change 1.
+// A made-up pass, made piece by piece in one buffer: all that the program decides that writes it. Paper 02, change 1.
 ghost use mathlib.Core.Path.{_≡_};
 ghost use Prim.Native.Nat.{_≤_};
 ghost use lib.ListN.{length};
-ghost use Rattle.made_up_pass.specs.Ending.{Ends};
-ghost use Rattle.made_up_pass.specs.Piece.{refusedPiece, pieceFrom, pieceRecords, pieceRoom, Pieced};
+ghost use Rattle.made_up_pass.specs.Ending.{nextOf, Told, endingRoom, endingWords};
+ghost use Rattle.made_up_pass.specs.Piece.{noPiece, refusedPiece, pieceFrom, pieceRecords, pieceRoom, Pieced};
+ghost use Rattle.print_page.specs.Put.{Put};
 use generator::Made;
 use generator::Word;
 use generator::go_on;
-use libc::STDOUT_FILENO;
+use print_text::put_text;
 
-// What a piece of the pass comes to: the number of the check that refused it or 0, the bytes at the buffer's front, the word that they
-// leave, and how many records are left.
+// Where the program stands with a piece of the pass: the number of the check that refused it or 0, the bytes at the buffer's front, which
+// are to be written, the word that they leave, and how many records are left.
 pub struct Piece {
     pub number: u8,
     pub bytes: usize,
     pub word: u32,
     pub left: u64,
+}
+
+// No piece is made yet.
+pub fn no_piece(seed: u32, count: u64) -> Piece
+    ensures { λ r. ⌜ r ≡ noPiece seed count ⌝ }
+{
+    Piece {
+        number: 0,
+        bytes: 0,
+        word: seed,
+        left: count,
+    }
 }
 
 // So many records fit into the buffer, whatever they are: 9,362 times 7 bytes are within 65,536.
@@ -57,13 +70,14 @@ fn piece_from(made: Made, left: u64) -> Piece
     }
 }
 
-// Makes the next piece, from the word that the pieces before it left.
-fn next_piece(word: u32, left: u64, buffer: &mut [u8]) -> Piece
+// Makes the next piece, from the word and of the records that the one before it left.
+pub fn next_piece(piece: Piece, buffer: &mut [u8]) -> Piece
     requires { ⌜ pieceRoom ≤ length (now buffer) ⌝ }
-    ensures { λ r. ⌜ Pieced word left (now (buffer .entry)) r (now (buffer .exit)) ⌝ }
+    ensures { λ r. ⌜ Pieced (piece .word) (piece .left) (now (buffer .entry)) r (now (buffer .exit)) ⌝ }
 {
+    let left = piece.left;
     let n = piece_of(left);
-    let made = go_on(Word(word), n as usize, buffer);
+    let made = go_on(Word(piece.word), n as usize, buffer);
     piece_from(made, left - n)
 }
 
@@ -77,27 +91,40 @@ pub enum Ending {
     Unwritten,
 }
 
-// Writes the log of so many records from a seed to standard output.
-pub fn write_pass(seed: u32, count: u64) -> Ending
-    ensures { λ r. ⌜ Ends seed count r ⌝ }
+// What the program does with a piece behind it.
+pub enum Next {
+    // It makes the next piece.
+    Again,
+    // It ends so.
+    End(Ending),
+}
+
+// What is next when a piece was handed to the output, which took all of it or not.
+pub fn next_of(piece: Piece, written: bool) -> Next
+    ensures { λ r. ⌜ r ≡ nextOf piece written ⌝ }
 {
-    let mut buffer = io::large_buffer();
-    let mut word = seed;
-    let mut left = count;
-    loop {
-        let piece = next_piece(word, left, &mut buffer);
-        let number = piece.number;
-        if number != 0 {
-            return Ending::Refused(number);
-        }
-        let bytes = piece.bytes;
-        if !io::write_all(STDOUT_FILENO, &buffer[..bytes]) {
-            return Ending::Unwritten;
-        }
-        word = piece.word;
-        left = piece.left;
-        if left == 0 {
-            return Ending::Whole;
-        }
+    let number = piece.number;
+    if number != 0 {
+        return Next::End(Ending::Refused(number));
+    }
+    if !written {
+        return Next::End(Ending::Unwritten);
+    }
+    if piece.left == 0 {
+        return Next::End(Ending::Whole);
+    }
+    Next::Again
+}
+
+// What is said of an ending, at a page's front: nothing where all went well.
+pub fn put_ending(page: &mut [u8], ending: Ending) -> usize
+    requires { ⌜ Told ending ⌝ }
+    requires { ⌜ endingRoom ≤ length (now page) ⌝ }
+    ensures { λ r. ⌜ Put endingRoom (now (page .entry)) 0 (endingWords ending) (now (page .exit)) r ⌝ }
+{
+    match ending {
+        Ending::Whole => 0,
+        Ending::Refused(_) => put_text(page, 0, b"made_up: refused with 26: the seed is zero\n"),
+        Ending::Unwritten => put_text(page, 0, b"made_up: standard output cannot be written\n"),
     }
 }

@@ -1,4 +1,4 @@
--- Texts in ASCII, as worked examples give them. Assumes nothing.
+-- Texts in ASCII, as definitions of what is said and worked examples give them. Assumes nothing.
 use mathlib.Core.List.{List, [] as []ᴸ, _∷_ as _∷ᴸ_, _++_}
 use Prim.Native.Char.{code}
 use Prim.Native.Nat.{ℕ}

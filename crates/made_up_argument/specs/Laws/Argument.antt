@@ -6,12 +6,12 @@ use Prim.Native.Nat.{ℕ, _+_, _-_, _*_, _≤_, _<_}
 use native.Mathlib.Nat.{le-refl, le-trans}
 use native.Mathlib.Omega.{arith}
 use borrow.Author.Tests.{lt-ltb, le-leb, lt-leb, leb-true}
-use lib.Dec.{ltb, leb}
+use lib.Dec.{eqb, ltb, leb}
+use lib.IntN.{ℤ, pos, negsuc}
 use lib.ListN.{length}
 use Rattle.base.specs.Laws.Tests.{by-test, both-left, both-right}
 use Rattle.base.specs.Lists.{every}
-use Rattle.made_up_argument.specs.Argument.{isDigit, worth, numberIn, Within}
-use Rattle.made_up_argument.specs.declared.Argument.{Argument}
+use Rattle.made_up_argument.specs.Argument.{isDigit, worth, numberIn, argumentOf, Within}
 use Rattle.made_up_argument.specs.declared.Argument.the-variants.{Number, Wrong}
 use Rattle.made_up_argument.specs.declared.Fault.the-variants.{NoNumber, TooLarge}
 
@@ -42,9 +42,12 @@ module _ (most : ℕ) (text : List ℕ) (some : 0 < length text) (digits : every
   is-number h = rw (lt-ltb 0 (length text) some, digits, le-leb (worth 0 text) most h)
 
 -- The number is at most what it may be.
-pub within : (most : ℕ) (text : List ℕ) {r : Argument} → r ≡ numberIn most text → Within most r
+number-within : (most : ℕ) (text : List ℕ) → Within most (numberIn most text)
 unfolding numberIn
-within most text e =
-    rw e
-    (by-test (ltb 0 (length text) && every isDigit text)
-    (λ t. rw t (by-test (leb (worth 0 text) most) (λ u. rw u (leb-true (worth 0 text) most u)) (λ u. rw u tt))) (λ t. rw t tt))
+number-within most text =
+    by-test (ltb 0 (length text) && every isDigit text)
+    (λ t. rw t (by-test (leb (worth 0 text) most) (λ u. rw u (leb-true (worth 0 text) most u)) (λ u. rw u tt))) (λ t. rw t tt)
+
+pub within : (error : ℤ) (most : ℕ) (text : List ℕ) → Within most (argumentOf error most text)
+within (pos error) most text = by-test (eqb error 0) (λ t. rw t (number-within most text)) (λ t. rw t tt)
+within (negsuc error) most text = tt

@@ -1,9 +1,10 @@
 -- Arguments and the numbers that they give, computed from the definition. Assumes nothing.
 use mathlib.Core.Path.{_≡_, refl}
 use Rattle.print_page.specs.Ascii.{ascii}
-use Rattle.made_up_argument.specs.Argument.{numberIn}
+use lib.IntN.{pos, negsuc}
+use Rattle.made_up_argument.specs.Argument.{numberIn, argumentOf}
 use Rattle.made_up_argument.specs.declared.Argument.the-variants.{Number, Wrong}
-use Rattle.made_up_argument.specs.declared.Fault.the-variants.{NoNumber, TooLarge}
+use Rattle.made_up_argument.specs.declared.Fault.the-variants.{NoNumber, TooLarge, TooLong}
 
 pub digits-in-order : numberIn 4294967295 (ascii "1203456789") ≡ Number 1203456789
 unfolding numberIn
@@ -45,3 +46,14 @@ colon = refl
 pub letter-behind : numberIn 4294967295 (ascii "99999999999x") ≡ Wrong NoNumber
 unfolding numberIn
 letter-behind = refl
+
+-- what the call that gave an argument says
+pub given-whole : argumentOf (pos 0) 4294967295 (ascii "7") ≡ Number 7
+unfolding numberIn
+given-whole = refl
+
+pub cut-short : argumentOf (pos 36) 4294967295 (ascii "7") ≡ Wrong TooLong
+cut-short = refl
+
+pub below-zero : argumentOf (negsuc 0) 4294967295 (ascii "7") ≡ Wrong TooLong
+below-zero = refl

@@ -19,13 +19,13 @@ same-outcome TooShort left buffer = refl
 sub-piece-from : tie.Need-sub-piece-from
 sub-piece-from c =
     let counted = c .before .before .before .before in
-    rw (counted .piece-of .ensures) (piece-records (counted .before .before .args .left) .0)
+    rw (counted .piece-of .ensures) (piece-records (counted .before .before .args .piece .left) .0)
 
 returns : tie.Need-returns
 returns c =
     let made = c .before .before .before .go-on in
     let counted = c .before .before .before .before .before in
-    let left = counted .before .before .args .left in
+    let left = counted .before .before .args .piece .left in
     let same = same-outcome (made .result) (left - counted .piece-of .result) (made .last .1 .1 .0) in
     record {
       made = rw (c .piece-from .ensures) (same ∙ rw (counted .piece-of .ensures) at (made .ensures));

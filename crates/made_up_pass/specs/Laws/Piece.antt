@@ -2,15 +2,15 @@
 use mathlib.Core.Path.{_≡_, sym, ap, _∙_}
 use mathlib.Core.List.{List}
 use mathlib.Core.Logic.{_≢_}
-use Prim.Native.Nat.{ℕ, _≤_, _<_}
+use Prim.Native.Nat.{ℕ, _*_, _≤_, _<_}
 use native.Mathlib.Omega.{arith}
 use borrow.Author.Tests.{lt-ltb, le-ltb}
-use lib.ListN.{take}
-use Rattle.base.specs.Laws.Tests.{by-less}
+use lib.ListN.{length, take}
+use Rattle.base.specs.Laws.Tests.{by-equal, by-less}
 use Rattle.generator.specs.Answer.{Outcome, makes}
-use Rattle.generator.specs.Laws.Answer.{written, what-is-written}
+use Rattle.generator.specs.Laws.Answer.{too-short, is-written, written, what-is-written}
 use Rattle.generator.specs.Laws.MadeUp.{log-within}
-use Rattle.generator_record.specs.MadeUp.{madeLog, logLeaves}
+use Rattle.generator_record.specs.MadeUp.{longest, madeLog, logLeaves}
 use Rattle.made_up_pass.specs.Piece.{pieceMost, pieceRoom, pieceRecords, Pieced}
 use Rattle.made_up_pass.specs.declared.Piece.{Piece}
 
@@ -44,9 +44,14 @@ module _ {word left : ℕ} {buffer after : List ℕ} {p : Piece} (pieced : Piece
   pub piece-word : p .word ≡ logLeaves (pieceRecords left) word
   piece-word = ap (λ (o : Outcome). o .word) (pieced .made) ∙ what-is-written word (pieceRecords left) buffer accepted .1
 
-  pub piece-fits : p .bytes ≤ pieceRoom
-  piece-fits =
-      let long = ap (λ (o : Outcome). o .bytes) (pieced .made) ∙ what-is-written word (pieceRecords left) buffer accepted .2 in
-      let room = log-within (pieceRecords left) word in
-      let most = piece-records left .1 in
-      rw long (omega arith)
+-- The bytes of a piece fit its room, and a refused one has none.
+pub piece-fits : {word left : ℕ} {buffer after : List ℕ} {p : Piece} → Pieced word left buffer p after → p .bytes ≤ pieceRoom
+piece-fits {word} {left} {buffer} {p = p} pieced =
+    let n = pieceRecords left in
+    let bytes = ap (λ (o : Outcome). o .bytes) (pieced .made) in
+    let long = log-within n word in
+    let most = piece-records left .1 in
+    by-equal word 0 (λ e. let none : p .bytes ≡ 0 = bytes ∙ rw e in omega arith)
+    (λ some. by-less (length buffer) (longest * n)
+    (λ h. let none : p .bytes ≡ 0 = bytes ∙ rw (too-short word n buffer some h) in omega arith)
+    (λ h. let all : p .bytes ≡ length (madeLog n word) = bytes ∙ rw (is-written word n buffer some h) in omega arith))

@@ -1,0 +1,2 @@
+-- What is said of wrong arguments.
+pub mod Words
