@@ -1,104 +1,194 @@
--- `replay::main` is safe and ends. The loop's invariant: the arrays hold a desk, and with what is held it stands so in a course, whose
--- laws say what was written; the buffer and the page are as long as they were, and no turn begins too far ahead. Assumes nothing.
-use mathlib.Core.List.{[]}
-use mathlib.Core.Path.{_≡_, sym, _∙_}
-use Prim.Native.Nat.{ℕ, _≤_}
-use native.Mathlib.Omega.{arith}
 use borrow.Author.Needs.{needs}
-use lib.ListN.{length, take}
-use lib.Seq.{length-take-le}
-use Rattle.desk.specs.Desk.{deskOf, Desk}
-use Rattle.print_turn.specs.Laws.Course.{stands-sound, stands-on, stands-filled}
-use Rattle.print_turn.specs.Course.{Stands}
-use Rattle.print_turn.specs.Course.Course.{begun}
-use Rattle.print_turn.specs.Turn.{bufferRoom}
-use Rattle.replay.specs.Ends.{last, ahead, less-behind, less-unread}
 use Rattle.replay.proofs.main.Statement.{statement}
 use Rattle.replay.proofs.main.Tie as tie
+use Rattle.replay.proofs.main.Reads as reads
+use Rattle.replay.proofs.main.Lts as lts
+use Rattle.io.proofs.large_buffer.Reads as large-buffer-reads
+use Rattle.io.proofs.write_all.Reads as write-all-reads
+use Rattle.libc.proofs.read.Reads as read-reads
+use Rattle.replay_course.proofs.after_write.Reads as after-write-reads
+use Rattle.replay_course.proofs.begun.Reads as begun-reads
+use Rattle.replay_course.proofs.take_in.Reads as take-in-reads
+use Rattle.replay_course.proofs.take_turn.Reads as take-turn-reads
+use Rattle.replay_course.proofs.words.words.Reads as words-reads
+use Rattle.steps_load.proofs.open_fresh.Reads as open-fresh-reads
 
 abbrev Inv-loop : tie.InvT-loop
-Inv-loop buffer₀ page₀ slots₀ contents₀ roster₀ held₀ base₀ done₀ t14 t15 t16 buffer page slots contents roster held base done =
-    Desk slots contents roster × Stands (deskOf slots contents roster) base (take held buffer) done ×
-    (length buffer ≡ bufferRoom) × (length page ≡ bufferRoom) × (held ≤ bufferRoom) × (base ≤ last)
+Inv-loop buffer₀ page₀ slots₀ contents₀ roster₀ standing₀ buffer page slots contents roster standing =
+    ?
 
 abbrev μ-loop : tie.MeasureT-loop
-μ-loop buffer₀ page₀ slots₀ contents₀ roster₀ held₀ base₀ done₀ t14 t15 t16 buffer page slots contents roster held base done =
-    ahead held base done
+μ-loop buffer₀ page₀ slots₀ contents₀ roster₀ standing₀ buffer page slots contents roster standing =
+    ?
 
+-- src/main.rt:18:22
+large-buffer-requires : tie.Need-large-buffer-requires Inv-loop μ-loop
+large-buffer-requires c κs = search needs
+
+-- src/main.rt:19:20
+large-buffer-requires-2 : tie.Need-large-buffer-requires-2 Inv-loop μ-loop
+large-buffer-requires-2 c κs = search needs
+
+-- src/main.rt:23:5
+open-fresh-requires : tie.Need-open-fresh-requires Inv-loop μ-loop
+open-fresh-requires c κs = search needs
+
+-- src/main.rt:24:9
+begun-requires : tie.Need-begun-requires Inv-loop μ-loop
+begun-requires c κs = search needs
+
+-- src/main.rt:25:5
 loop-holds : tie.Need-loop-holds Inv-loop μ-loop
-loop-holds c =
-    let second = c .before .before .before .before in
-    let opened = c .open-fresh .ensures in
-    let input = sym (second .before .large-buffer .ensures) in
-    let page = sym (second .large-buffer2 .ensures) in
-    (opened .desk, rw (opened .same) (record { read = []; written = []; course = begun }), input, page, omega arith, omega arith)
+loop-holds c = search needs
 
-turn-requires : tie.Need-turn-requires Inv-loop μ-loop
-turn-requires c κs =
-    let inv = c .before .before .before .before .before .loop .inv in
-    (inv .0, (omega arith, omega arith, omega arith))
+-- src/main.rt:31:21
+enum-told : tie.Need-enum-told Inv-loop μ-loop
+enum-told c = search needs
 
+-- src/main.rt:31:21
+slice-aggregate-take-turn : tie.Need-slice-aggregate-take-turn Inv-loop μ-loop
+slice-aggregate-take-turn c = search needs
+
+-- src/main.rt:32:21
+slice-aggregate-take-turn-2 : tie.Need-slice-aggregate-take-turn-2 Inv-loop μ-loop
+slice-aggregate-take-turn-2 c = search needs
+
+-- src/main.rt:29:21
+take-turn-requires : tie.Need-take-turn-requires Inv-loop μ-loop
+take-turn-requires c κs = search needs
+
+-- src/main.rt:38:58
+array-share-prefix-page : tie.Need-array-share-prefix-page Inv-loop μ-loop
+array-share-prefix-page c = search needs
+
+-- src/main.rt:38:58
 slice-aggregate-write-all : tie.Need-slice-aggregate-write-all Inv-loop μ-loop
-slice-aggregate-write-all c =
-    let turn = c .before .before .before .turn in
-    sym (length-take-le (turn .result .used) _ (turn .ensures .1 .fits))
+slice-aggregate-write-all c = search needs
 
--- Another turn follows at once.
+-- src/main.rt:38:21
+write-all-requires : tie.Need-write-all-requires Inv-loop μ-loop
+write-all-requires c κs = search needs
+
+-- src/main.rt:39:17
+after-write-requires : tie.Need-after-write-requires Inv-loop μ-loop
+after-write-requires c κs = search needs
+
+-- src/main.rt:25:5
 loop-less : tie.Need-loop-less Inv-loop μ-loop
-loop-less c =
-    let turn = c .before .before .before .before .before .before .before in
-    let loop = turn .before .before .before .before .before .before .loop in
-    let next = turn .turn .result in
-    let turned = turn .turn .ensures .1 in
-    let again = rw (c .enum-told .given .1) at (turned .because) in
-    less-behind (loop .held) (loop .base) (next .held) (next .base) (turned .exact) (loop .inv .4) (loop .inv .5) (loop .done) (again .2)
+loop-less c = search needs
 
+-- src/main.rt:25:5
 loop-again : tie.Need-loop-again Inv-loop μ-loop
-loop-again c =
-    let turn = c .before .before .before .before .before .before .before in
-    let inv = turn .before .before .before .before .before .before .loop .inv in
-    let turned = turn .turn .ensures .1 in
-    let again = rw (c .enum-told .given .1) at (turned .because) in
-    let on = stands-on (inv .1) (turned .shows (stands-sound (inv .1))) (λ e. let z : _≡_ {A = ℕ} 0 1 = cc in omega arith) in
-    (turn .turn .ensures .0, on, turned .keeps .0 ∙ inv .2, turned .keeps .1 ∙ inv .3, omega arith, omega arith)
+loop-again c = search needs
 
--- Input is asked for, and read.
+-- src/main.rt:42:21
+enum-told-2 : tie.Need-enum-told-2 Inv-loop μ-loop
+enum-told-2 c = search needs
+
+-- src/main.rt:43:52
+sub-read : tie.Need-sub-read Inv-loop μ-loop
+sub-read c = search needs
+
+-- src/main.rt:43:52
+part-buffer-start : tie.Need-part-buffer-start Inv-loop μ-loop
+part-buffer-start c = search needs
+
+-- src/main.rt:43:52
+part-buffer-end : tie.Need-part-buffer-end Inv-loop μ-loop
+part-buffer-end c = search needs
+
+-- src/main.rt:43:21
+read-requires : tie.Need-read-requires Inv-loop μ-loop
+read-requires c κs = search needs
+
+-- src/main.rt:44:51
+sub-take-in : tie.Need-sub-take-in Inv-loop μ-loop
+sub-take-in c = search needs
+
+-- src/main.rt:44:51
+part-take-in-start : tie.Need-part-take-in-start Inv-loop μ-loop
+part-take-in-start c = search needs
+
+-- src/main.rt:44:51
+part-take-in-end : tie.Need-part-take-in-end Inv-loop μ-loop
+part-take-in-end c = search needs
+
+-- src/main.rt:44:17
+take-in-requires : tie.Need-take-in-requires Inv-loop μ-loop
+take-in-requires c κs = search needs
+
+-- src/main.rt:25:5
 loop-less-2 : tie.Need-loop-less-2 Inv-loop μ-loop
-loop-less-2 c =
-    let told = c .before in
-    let read = told .before .before .before in
-    let ask = read .before .before in
-    let turn = ask .before .before .before .before .before .before .before in
-    let loop = turn .before .before .before .before .before .before .loop in
-    let next = turn .turn .result in
-    let turned = turn .turn .ensures .1 in
-    let asked = rw (ask .enum-told2 .given .1) at (turned .because) in
-    let filled = rw (told .filled .given .1) at (read .read-more .ensures .fills) in
-    less-unread (loop .held) (loop .base) (next .held) (next .base) (turned .exact) (loop .inv .4) (loop .inv .5)
-    (told .filled .given .0 .0) (loop .done) (turned .holds) (filled .0) (asked .1)
+loop-less-2 c = search needs
 
+-- src/main.rt:25:5
 loop-again-2 : tie.Need-loop-again-2 Inv-loop μ-loop
-loop-again-2 c =
-    let told = c .before in
-    let read = told .before .before .before in
-    let ask = read .before .before in
-    let turn = ask .before .before .before .before .before .before .before in
-    let inv = turn .before .before .before .before .before .before .loop .inv in
-    let turned = turn .turn .ensures .1 in
-    let asked = rw (ask .enum-told2 .given .1) at (turned .because) in
-    let fill = read .read-more .ensures in
-    let filled = rw (told .filled .given .1) at (fill .fills) in
-    let on = stands-on (inv .1) (turned .shows (stands-sound (inv .1))) (λ e. let z : _≡_ {A = ℕ} 0 1 = cc in omega arith) in
-    let more = stands-filled (turn .turn .result .held) (turn .turn .last .0) (rw (asked .1) at on) (read .read-more .last .0)
-    (told .filled .given .0 .0) _ (fill .same) (filled .0) in
-    let long = fill .long ∙ turned .keeps .0 ∙ inv .2 in
-    (turn .turn .ensures .0, more, long, turned .keeps .1 ∙ inv .3, omega arith, omega arith)
+loop-again-2 c = search needs
+
+-- src/main.rt:46:24
+enum-known-then : tie.Need-enum-known-then Inv-loop μ-loop
+enum-known-then c = search needs
+
+-- src/main.rt:47:39
+slice-aggregate-words : tie.Need-slice-aggregate-words Inv-loop μ-loop
+slice-aggregate-words c = search needs
+
+-- src/main.rt:47:21
+words-requires : tie.Need-words-requires Inv-loop μ-loop
+words-requires c κs = search needs
+
+-- src/main.rt:48:46
+array-share-prefix-page-2 : tie.Need-array-share-prefix-page-2 Inv-loop μ-loop
+array-share-prefix-page-2 c = search needs
+
+-- src/main.rt:48:46
+slice-aggregate-write-all-2 : tie.Need-slice-aggregate-write-all-2 Inv-loop μ-loop
+slice-aggregate-write-all-2 c = search needs
+
+-- src/main.rt:48:17
+write-all-requires-2 : tie.Need-write-all-requires-2 Inv-loop μ-loop
+write-all-requires-2 c κs = search needs
+
+-- src/main.rt:49:17
+returns : tie.Need-returns Inv-loop μ-loop
+returns c = search needs
 
 pub main-spec : {M : Type 1} → statement M
 main-spec =
-    tie.close (tie.spec Inv-loop μ-loop (λ c. search needs) (λ c. search needs) (λ c κs. search needs) loop-holds (λ c. search needs)
-    (λ c. search needs) turn-requires (λ c. search needs) slice-aggregate-write-all (λ c. search needs) (λ c. search needs)
-    (λ c. search needs) (λ c. search needs) (λ c. search needs) loop-less loop-again (λ c. search needs) (λ c. search needs)
-    (λ c. search needs) (λ c. search needs) loop-less-2 loop-again-2 (λ c. search needs) (λ c. search needs) (λ c. search needs)
-    (λ c. search needs) (λ c. search needs) (λ c. search needs) (λ c. search needs) (λ c. search needs) (λ c. search needs)
-    (λ c. search needs))
+    tie.close
+    (tie.spec
+    Inv-loop
+    μ-loop
+    large-buffer-requires
+    large-buffer-requires-2
+    open-fresh-requires
+    begun-requires
+    loop-holds
+    enum-told
+    slice-aggregate-take-turn
+    slice-aggregate-take-turn-2
+    take-turn-requires
+    array-share-prefix-page
+    slice-aggregate-write-all
+    write-all-requires
+    after-write-requires
+    loop-less
+    loop-again
+    enum-told-2
+    sub-read
+    part-buffer-start
+    part-buffer-end
+    read-requires
+    sub-take-in
+    part-take-in-start
+    part-take-in-end
+    take-in-requires
+    loop-less-2
+    loop-again-2
+    enum-known-then
+    slice-aggregate-words
+    words-requires
+    array-share-prefix-page-2
+    slice-aggregate-write-all-2
+    write-all-requires-2
+    returns)
