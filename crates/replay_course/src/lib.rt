@@ -146,9 +146,7 @@ pub fn take_turn(
     let held = before.held;
     let base = before.base;
     let done = before.done;
-    let turned = turn(
-        buffer, held, base, done, page, slots, contents, roster,
-    );
+    let turned = turn(buffer, held, base, done, page, slots, contents, roster);
     let next = turned.next;
     let then = then_of(next);
     Standing {

@@ -26,15 +26,15 @@ returns c =
       start .pre .0,
       record {
         shows = λ ok.
-        record {
-          steps = 0;
-          at = 0;
-          answers = [];
-          ran = ran-none desk held (args .base) ok;
-          further = omega arith;
-          rest = refl;
-          shown = refl;
-        };
+            record {
+              steps = 0;
+              at = 0;
+              answers = [];
+              ran = ran-none desk held (args .base) ok;
+              further = omega arith;
+              rest = refl;
+              shown = refl;
+            };
         because = (c .if1 .taken, refl, refl);
         exact = refl;
         holds = omega arith;

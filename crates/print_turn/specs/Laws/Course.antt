@@ -43,8 +43,11 @@ course-prints begun more may = sym (printed-is-left nameFor fresh more fresh-sou
 course-prints (reads {read = read} {held = held} x bytes) more may =
     rw (append-assoc held bytes more, append-assoc read bytes more) (course-prints x (bytes ++ more) (λ t. cc))
 course-prints (turns {written = written} x {state} {held'} {r} {page} shows go) more may =
-    rw (append-assoc written, ← goes-on (r .next) (r .base) state (held' ++ more) go,
-    ← shows-prints shows (λ e. absurd (go e)) more may)
+    rw (
+      append-assoc written,
+      ← goes-on (r .next) (r .base) state (held' ++ more) go,
+      ← shows-prints shows (λ e. absurd (go e)) more may,
+    )
     (course-prints x more may)
 
 -- With the last turn all that is written is the printed run of all that was read, and whatever follows is no part of it.

@@ -86,15 +86,15 @@ module _
         let inside = length-take-le held buffer fits in
         record {
           shows = λ ok.
-          record {
-            steps = steps;
-            at = at;
-            answers = ran .answers;
-            ran = ran .ran ok;
-            further = refl;
-            rest = rest .holds;
-            shown = shown;
-          };
+              record {
+                steps = steps;
+                at = at;
+                answers = ran .answers;
+                ran = ran .ran ok;
+                further = refl;
+                rest = rest .holds;
+                shown = shown;
+              };
           because = because;
           exact = omega (arith, rest .counts, ran .inside);
           holds = omega (arith, rest .counts);

@@ -89,6 +89,11 @@ runs-turn {at} x e {state} {buffer'} {page' = page'} a wrote =
     } in
     rw (a .stands) (written on wrote)
 
+-- What is used of the page stands on it.
+pub used-fits : {at : Standing} {s : State} {buffer : List ℕ} {room : ℕ} {state : State} {buffer' : List ℕ} {after : Standing}
+    {page : List ℕ} → Advances s buffer at room state buffer' after page → after .used ≤ length page
+used-fits a = rw (a .stands) (a .turns .fits)
+
 -- A read that gives bytes is not at the input's end.
 some-read : (bytes : List ℕ) → 0 < length bytes → atEnd bytes ≡ false
 some-read [] some = absurd (omega arith)
