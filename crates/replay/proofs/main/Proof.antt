@@ -46,7 +46,8 @@ loop-less c =
     let turn = c .before .before .before .before .before in
     let told = turn .before .before .before .before .before .before in
     let inv = told .before .before .loop .inv in
-    rw (c .after-write .ensures) (less-turn (inv .1) (told .enum-told .given .1) (turn .take-turn .ensures .1) (c .before .write-all .result))
+    let less = less-turn (inv .1) (told .enum-told .given .1) (turn .take-turn .ensures .1) (c .before .write-all .result) in
+    rw (c .after-write .ensures) less
 
 loop-again : tie.Need-loop-again Inv-loop μ-loop
 loop-again c =

@@ -1,7 +1,7 @@
 -- What the program does keeps it in a course. Paper 01, "The printed run". Assumes nothing.
 use mathlib.Core.Bool.{Bool, true, false}
 use mathlib.Core.List.{List, [], _∷_, _++_, append-nil}
-use mathlib.Core.Path.{_≡_, refl, sym, _∙_}
+use mathlib.Core.Path.{_≡_, refl, _∙_}
 use Prim.Native.Nat.{ℕ, _+_, _≤_, _<_}
 use native.Mathlib.Omega.{arith}
 use lib.IntN.{ℤ}
@@ -12,13 +12,14 @@ use Rattle.print_turn.specs.Course.Course.{begun, reads, turns}
 use Rattle.print_turn.specs.Course.{atEnd}
 use Rattle.print_turn.specs.Laws.Course.{course-sound, course-ends}
 use Rattle.print_turn.specs.Laws.Ordered.{course-runs, turn-runs}
-use Rattle.print_turn.specs.Turn.{bufferRoom, Shows, Because, Turns}
+use Rattle.print_turn.specs.Turn.{bufferRoom, farthest, Shows, Because, Turns}
 use Rattle.print_turn.specs.declared.Next.{Next}
 use Rattle.print_turn.specs.declared.Next.the-variants.{Again, Read, End, TooLong}
 use Rattle.print_turn.specs.declared.Turned.{Turned}
-use Rattle.replay_course.specs.Course.{Stands, Holds, last, Runs}
+use Rattle.replay_course.specs.Course.{Stands, Finished, Holds, last, Runs}
 use Rattle.replay_course.specs.Laws.Given.{given-within}
 use Rattle.replay_course.specs.Standing.{begins, givenOf, takenIn, thenOf, behind, Advances, afterWrite}
+use Rattle.replay_course.specs.declared.Ending.the-variants as Ending
 use Rattle.replay_course.specs.declared.Given.{Given}
 use Rattle.replay_course.specs.declared.Given.the-variants.{Failed, Nothing, Bytes}
 use Rattle.replay_course.specs.declared.Standing.{Standing}
@@ -68,7 +69,8 @@ module _ {s : State} {buffer : List ℕ} {held base : ℕ} {done : Bool} {room :
   turn-near less near TooLong why = omega arith
 
 -- A write that fails stops the program.
-written : {at : Standing} {s : State} {buffer page : List ℕ} → Runs at s buffer page → (wrote : Bool) → Runs (afterWrite at wrote) s buffer page
+written : {at : Standing} {s : State} {buffer page : List ℕ} → Runs at s buffer page → (wrote : Bool) →
+    Runs (afterWrite at wrote) s buffer page
 written x true = x
 written x false = record { holds = tt; long = x .long; room = x .room; near = x .near }
 
@@ -88,6 +90,16 @@ runs-turn {at} x e {state} {buffer'} {page' = page'} a wrote =
       near = turn-near stands t (x .room) (x .near) (r .next) (t .because);
     } in
     rw (a .stands) (written on wrote)
+
+-- Where the program stops because its run is over, all that was written is the printed run of all that was read.
+pub runs-over : {at : Standing} {s : State} {buffer page : List ℕ} → Runs at s buffer page → at .then ≡ Then.Stop Ending.Over →
+    Finished s (at .base) (take (at .held) buffer) (at .done)
+runs-over x e = rw e at (x .holds)
+
+-- It stops because of the input's length nowhere before `farthest`.
+pub runs-too-long : {at : Standing} {s : State} {buffer page : List ℕ} → Runs at s buffer page → at .then ≡ Then.Stop Ending.TooLong →
+    farthest ≤ at .base
+runs-too-long x e = rw e at (x .holds) .1
 
 -- What is used of the page stands on it.
 pub used-fits : {at : Standing} {s : State} {buffer : List ℕ} {room : ℕ} {state : State} {buffer' : List ℕ} {after : Standing}

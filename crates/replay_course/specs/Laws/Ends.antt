@@ -13,7 +13,7 @@ use Rattle.print_turn.specs.declared.Next.{Next}
 use Rattle.print_turn.specs.declared.Next.the-variants.{Again, Read, End, TooLong}
 use Rattle.replay_course.specs.Course.{last, Runs}
 use Rattle.replay_course.specs.Laws.Given.{given-within}
-use Rattle.replay_course.specs.Standing.{givenOf, takenIn, thenOf, behind, Advances, afterWrite}
+use Rattle.replay_course.specs.Standing.{givenOf, takenIn, thenOf, Advances, afterWrite}
 use Rattle.replay_course.specs.declared.Ending.the-variants as Ending
 use Rattle.replay_course.specs.declared.Given.{Given}
 use Rattle.replay_course.specs.declared.Given.the-variants.{Failed, Nothing, Bytes}

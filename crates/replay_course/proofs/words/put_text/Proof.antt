@@ -1,5 +1,5 @@
 -- `replay_course::words::put_text` meets its contract. The loop's invariant: the first bytes of the text are put. Assumes nothing.
-use mathlib.Core.Path.{_≡_, refl}
+use mathlib.Core.Path.{_≡_}
 use Prim.Native.Nat.{_+_, _-_, _≤_}
 use native.Mathlib.Numerals.{add-one}
 use native.Mathlib.Omega.{arith}
