@@ -65,7 +65,8 @@ abbrev pub Over : Bool → Decoded → Type 0
 Over done d = (isWhole d ≡ false) × (done ≡ false → d ≡ Unknown)
 
 -- why a program does what it does next: another turn has something to write and comes further on; input is read short of its end, and
--- behind less than a record; a run ends where it is over; and from `farthest` on, and nowhere else, nothing is run and the input is too long
+-- behind less than a record; a run ends where it is over; and from `farthest` on, and nowhere before, the input is too long, and nothing
+-- is run
 abbrev pub Because : Next → ℕ → Bool → List ℕ → Turned → Type 0
 Because Again base done held r = (base < farthest) × (0 < r .used) × (base < r .base)
 Because Read base done held r = (base < farthest) × (done ≡ false) × (decode held 0 ≡ Cut) × (r .held < longest)

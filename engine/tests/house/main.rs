@@ -17,6 +17,7 @@ mod lengths;
 mod names;
 mod passages;
 mod paths;
+mod programs;
 mod promises;
 mod proofs_page;
 #[path = "../shared/table.rs"]

@@ -2,11 +2,11 @@
 -- printed run". Assumes nothing.
 use mathlib.Core.Bool.{Bool}
 use mathlib.Core.List.{List, [], _++_, append-nil}
-use mathlib.Core.Path.{_≡_, refl, ap, sym, _∙_}
+use mathlib.Core.Path.{_≡_, refl, sym, _∙_}
 use Prim.Native.Nat.{ℕ, _+_, _≤_}
 use native.Mathlib.Nat.{add-zero, zero-add}
 use native.Mathlib.Omega.{arith}
-use lib.ListN.{length, take, drop}
+use lib.ListN.{length, drop}
 use lib.Seq.{drop-append-le, drop-drop}
 use Rattle.broker.specs.State.{State, fresh}
 use Rattle.desk.specs.Look.{nameFor}
@@ -14,7 +14,6 @@ use Rattle.ordering.specs.Laws.Runs.{fresh-sound}
 use Rattle.print_piece.specs.Laws.Ran.{ran-none, ran-on}
 use Rattle.print_piece.specs.Ran.{Ran}
 use Rattle.print_run.specs.Laws.Wholes.{run-within}
-use Rattle.print_run.specs.Run.{Answered}
 use Rattle.print_turn.specs.Course.{Course, RunSoFar}
 use Rattle.print_turn.specs.Course.Course.{begun, reads, turns}
 use Rattle.print_turn.specs.Turn.{Shows}

@@ -168,4 +168,5 @@ module _ {s : State} {held : List ℕ} {base : ℕ} {state : State} {held' : Lis
   pub shows-prints : left nameFor base s (held ++ more) ≡ take (r .used) page ++ leftBehind (r .next) (r .base) state (held' ++ more)
   shows-prints =
       piece-shows (x .ran) more ∙
-      rw (← x .further, ← x .rest, x .shown, append-assoc (linesOf (x .answers))) (ap (λ l. linesOf (x .answers) ++ l) (behind (r .next) refl))
+      rw (← x .further, ← x .rest, x .shown, append-assoc (linesOf (x .answers)))
+      (ap (λ l. linesOf (x .answers) ++ l) (behind (r .next) refl))

@@ -1,0 +1,5 @@
+-- Laws of the definitions.
+pub mod Course
+pub mod Ends
+pub mod Given
+pub mod Words
