@@ -21,13 +21,13 @@ fn main() {
     let mut contents = [0u32; CONTENTS_LENGTH];
     let mut roster = [0u64; ROSTER_LENGTH];
     open_fresh(&mut slots, &mut contents, &mut roster);
-    let mut standing = begun();
+    let mut stage = begun();
     loop {
-        let then = standing.then;
+        let then = stage.then;
         match then {
             Then::Turn => {
                 let turned = take_turn(
-                    standing,
+                    stage,
                     &mut buffer,
                     &mut page,
                     &mut slots,
@@ -36,12 +36,12 @@ fn main() {
                 );
                 let used = turned.used;
                 let wrote = io::write_all(STDOUT_FILENO, &page[..used]);
-                standing = after_write(turned, wrote);
+                stage = after_write(turned, wrote);
             }
             Then::Read => {
-                let held = standing.held;
+                let held = stage.held;
                 let got = libc::read(STDIN_FILENO, &mut buffer[held..]);
-                standing = take_in(standing, got, &buffer[held..]);
+                stage = take_in(stage, got, &buffer[held..]);
             }
             Then::Stop(why) => {
                 let said = words(why, &mut page);

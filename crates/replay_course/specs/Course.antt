@@ -10,7 +10,7 @@ use Rattle.print_run.specs.Printed.{Prints}
 use Rattle.print_turn.specs.Course.{Course, RunSoFar}
 use Rattle.print_turn.specs.Turn.{bufferRoom, farthest, longest, MayFollow}
 use Rattle.replay_course.specs.declared.Ending.the-variants.{Over, Unwritten, Unread, TooLong}
-use Rattle.replay_course.specs.declared.Standing.{Standing}
+use Rattle.replay_course.specs.declared.Stage.{Stage}
 use Rattle.replay_course.specs.declared.Then.{Then}
 use Rattle.replay_course.specs.declared.Then.the-variants.{Turn, Read, Stop}
 
@@ -30,7 +30,7 @@ pub record Finished (s : State) (base : ℕ) (held : List ℕ) (done : Bool) : T
 
 -- what holds by what is next: a turn or a read goes on in a course, and a read short of the input's end and behind less than a record; the
 -- program stops with `end` where its run is over, and because of the input's length from `farthest` on
-abbrev pub Holds : Then → Standing → State → List ℕ → Type 0
+abbrev pub Holds : Then → Stage → State → List ℕ → Type 0
 Holds Turn at s buffer = Stands s (at .base) (take (at .held) buffer) (at .done)
 Holds Read at s buffer = Stands s (at .base) (take (at .held) buffer) (at .done) × (at .done ≡ false) × (at .held < longest)
 Holds (Stop Over) at s buffer = Finished s (at .base) (take (at .held) buffer) (at .done)
@@ -43,7 +43,7 @@ abbrev pub last : ℕ
 last = farthest + bufferRoom
 
 -- the program stands so with a buffer and a page
-pub record Runs (at : Standing) (s : State) (buffer page : List ℕ) : Type 0 where
+pub record Runs (at : Stage) (s : State) (buffer page : List ℕ) : Type 0 where
   pub holds : Holds (at .then) at s buffer
   pub long : (length buffer ≡ bufferRoom) × (length page ≡ bufferRoom)
   pub room : at .held ≤ bufferRoom

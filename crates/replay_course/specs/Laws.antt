@@ -2,4 +2,3 @@
 pub mod Course
 pub mod Ends
 pub mod Given
-pub mod Words

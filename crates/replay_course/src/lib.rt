@@ -6,7 +6,7 @@ ghost use lib.ListN.{length};
 ghost use Rattle.desk.specs.Desk.{deskOf, Desk};
 ghost use Rattle.print_last.specs.Last.{endingRoom};
 ghost use Rattle.print_turn.specs.Turn.{bufferRoom};
-ghost use Rattle.replay_course.specs.Standing.{begins, givenOf, takenIn, thenOf, Advances, afterWrite};
+ghost use Rattle.replay_course.specs.Stage.{begins, givenOf, takenIn, thenOf, Advances, afterWrite};
 use print_turn::Next;
 use print_turn::turn;
 use roster::Roster;
@@ -39,7 +39,7 @@ pub enum Then {
 
 // Where the program stands: how many bytes are held at the buffer's front, where they begin in the input, whether the input is at its
 // end, how much of the page is used, and what is next.
-pub struct Standing {
+pub struct Stage {
     pub held: usize,
     pub base: u64,
     pub done: bool,
@@ -58,10 +58,10 @@ pub enum Given {
 }
 
 // Before the first call.
-pub fn begun() -> Standing
+pub fn begun() -> Stage
     ensures { λ r. ⌜ r ≡ begins ⌝ }
 {
-    Standing {
+    Stage {
         held: 0,
         base: 0,
         done: false,
@@ -85,27 +85,27 @@ fn read_gave(got: isize, lent: &[u8]) -> Given
 }
 
 // Behind a read, which was lent the buffer behind what is held.
-pub fn take_in(before: Standing, got: isize, lent: &[u8]) -> Standing
+pub fn take_in(before: Stage, got: isize, lent: &[u8]) -> Stage
     requires { ⌜ (0 < length (now lent)) × (before .held + length (now lent) ≤ bufferRoom) ⌝ }
     ensures { λ r. ⌜ r ≡ takenIn before (givenOf got (length (now (lent .entry)))) ⌝ }
 {
     let held = before.held;
     match read_gave(got, lent) {
-        Given::Failed => Standing {
+        Given::Failed => Stage {
             held: held,
             base: before.base,
             done: before.done,
             used: before.used,
             then: Then::Stop(Ending::Unread),
         },
-        Given::Nothing => Standing {
+        Given::Nothing => Stage {
             held: held,
             base: before.base,
             done: true,
             used: before.used,
             then: Then::Turn,
         },
-        Given::Bytes(more) => Standing {
+        Given::Bytes(more) => Stage {
             held: held + more,
             base: before.base,
             done: false,
@@ -129,13 +129,13 @@ fn then_of(next: Next) -> Then
 
 // Takes a turn. What the page then shows is to be written.
 pub fn take_turn(
-    before: Standing,
+    before: Stage,
     buffer: &mut [u8],
     page: &mut [u8],
     slots: &mut Slots,
     contents: &mut Contents,
     roster: &mut Roster,
-) -> Standing
+) -> Stage
     requires { ⌜ Desk (now slots) (now contents) (now roster) ⌝ }
     requires { ⌜ (before .held ≤ length (now buffer)) × (length (now buffer) ≤ bufferRoom) × (endingRoom ≤ length (now page)) ⌝ }
     ensures kept { λ _. ⌜ Desk (now (slots .exit)) (now (contents .exit)) (now (roster .exit)) ⌝ }
@@ -149,7 +149,7 @@ pub fn take_turn(
     let turned = turn(buffer, held, base, done, page, slots, contents, roster);
     let next = turned.next;
     let then = then_of(next);
-    Standing {
+    Stage {
         held: turned.held,
         base: turned.base,
         done: done,
@@ -159,13 +159,13 @@ pub fn take_turn(
 }
 
 // Behind a write of what the page shows.
-pub fn after_write(before: Standing, wrote: bool) -> Standing
+pub fn after_write(before: Stage, wrote: bool) -> Stage
     ensures { λ r. ⌜ r ≡ afterWrite before wrote ⌝ }
 {
     if wrote {
         return before;
     }
-    Standing {
+    Stage {
         held: before.held,
         base: before.base,
         done: before.done,

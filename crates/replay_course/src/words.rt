@@ -1,22 +1,10 @@
 // What the program says as it ends, on standard error.
-ghost use Prim.Native.Nat.{_+_, _≤_};
+ghost use Prim.Native.Nat.{_≤_};
 ghost use lib.ListN.{length};
 ghost use Rattle.print_page.specs.Put.{Put};
 ghost use Rattle.replay_course.specs.Words.{wordsOf, wordsRoom};
 use crate::Ending;
-
-// A text on a page that has room for it.
-fn put_text(page: &mut [u8], used: usize, text: &[u8]) -> usize
-    requires { ⌜ used + length (now text) ≤ length (now page) ⌝ }
-    ensures { λ r. ⌜ Put (length (now (text .entry))) (now (page .entry)) used (now (text .entry)) (now (page .exit)) r ⌝ }
-{
-    let mut put: usize = 0;
-    while put < text.len() {
-        page[used + put] = text[put];
-        put += 1;
-    }
-    used + put
-}
+use print_text::put_text;
 
 // Why the program stops, at the page's front; nothing where the run is over.
 pub fn words(why: Ending, page: &mut [u8]) -> usize

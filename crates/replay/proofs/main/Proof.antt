@@ -19,11 +19,11 @@ use Rattle.replay.proofs.main.Statement.{statement}
 use Rattle.replay.proofs.main.Tie as tie
 
 abbrev Inv-loop : tie.InvT-loop
-Inv-loop buffer₀ page₀ slots₀ contents₀ roster₀ standing₀ buffer page slots contents roster standing =
-    Desk slots contents roster × Runs standing (deskOf slots contents roster) buffer page
+Inv-loop buffer₀ page₀ slots₀ contents₀ roster₀ stage₀ buffer page slots contents roster stage =
+    Desk slots contents roster × Runs stage (deskOf slots contents roster) buffer page
 
 abbrev μ-loop : tie.MeasureT-loop
-μ-loop buffer₀ page₀ slots₀ contents₀ roster₀ standing₀ buffer page slots contents roster standing = ahead standing
+μ-loop buffer₀ page₀ slots₀ contents₀ roster₀ stage₀ buffer page slots contents roster stage = ahead stage
 
 loop-holds : tie.Need-loop-holds Inv-loop μ-loop
 loop-holds c =
@@ -63,7 +63,7 @@ part-take-in-end c =
     let back = c .before in
     let read = back .before in
     let loop = read .before .before .before .before .loop in
-    let held = loop .standing .held in
+    let held = loop .stage .held in
     omega (
       arith,
       same-len-mid held (bufferRoom - held) (loop .buffer) (read .read .last .1 .0) (back .buffer4 .given),
@@ -87,7 +87,7 @@ loop-less-2 c =
     let read = c .before .before .before .before in
     let told = read .before .before in
     let loop = told .before .before .loop in
-    let lent = length (lentBack (loop .standing .held) (loop .buffer) (read .read .last .1 .0)) in
+    let lent = length (lentBack (loop .stage .held) (loop .buffer) (read .read .last .1 .0)) in
     let got = toZ w64 (ofZ w64 (read .read .result)) in
     rw (c .take-in .ensures) (less-read (loop .inv .1) (told .enum-told2 .given .1) got lent)
 
@@ -97,7 +97,7 @@ loop-again-2 c =
     let read = back .before in
     let told = read .before .before in
     let loop = told .before .before .loop in
-    let held = loop .standing .held in
+    let held = loop .stage .held in
     let bytes = read .read .last .1 .0 in
     let same = take-put held (bufferRoom - held) (loop .buffer) bytes (omega arith) in
     let long = same-len-mid held (bufferRoom - held) (loop .buffer) bytes (back .buffer4 .given) in

@@ -4,7 +4,7 @@ use borrow.Author.Needs.{needs}
 use mir.Syntax.{w64}
 use mir.ValLaws.{toZ-ofZ}
 use Rattle.replay_course.specs.Laws.Given.{given-failed, given-counts, given-bytes}
-use Rattle.replay_course.specs.Standing.{countGiven}
+use Rattle.replay_course.specs.Stage.{countGiven}
 use Rattle.replay_course.proofs.read_gave.Statement.{statement}
 use Rattle.replay_course.proofs.read_gave.Tie as tie
 

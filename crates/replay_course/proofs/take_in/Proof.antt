@@ -6,7 +6,7 @@ use lib.ListN.{length}
 use mir.Syntax.{w64}
 use mir.ValLaws.{toZ-ofZ}
 use Rattle.replay_course.specs.Laws.Given.{given-within}
-use Rattle.replay_course.specs.Standing.{takenIn}
+use Rattle.replay_course.specs.Stage.{takenIn}
 use Rattle.replay_course.proofs.take_in.Statement.{statement}
 use Rattle.replay_course.proofs.take_in.Tie as tie
 

@@ -11,18 +11,18 @@ use Rattle.broker.specs.State.{State, fresh}
 use Rattle.print_turn.specs.Course.Course.{begun, reads, turns}
 use Rattle.print_turn.specs.Course.{atEnd}
 use Rattle.print_turn.specs.Laws.Course.{course-sound, course-ends}
-use Rattle.print_turn.specs.Laws.Ordered.{course-runs, turn-runs}
+use Rattle.print_turn.specs.Laws.Runs.{course-runs, turn-runs}
 use Rattle.print_turn.specs.Turn.{bufferRoom, farthest, Shows, Because, Turns}
 use Rattle.print_turn.specs.declared.Next.{Next}
 use Rattle.print_turn.specs.declared.Next.the-variants.{Again, Read, End, TooLong}
 use Rattle.print_turn.specs.declared.Turned.{Turned}
 use Rattle.replay_course.specs.Course.{Stands, Finished, Holds, last, Runs}
 use Rattle.replay_course.specs.Laws.Given.{given-within}
-use Rattle.replay_course.specs.Standing.{begins, givenOf, takenIn, thenOf, behind, Advances, afterWrite}
+use Rattle.replay_course.specs.Stage.{begins, givenOf, takenIn, thenOf, behind, Advances, afterWrite}
 use Rattle.replay_course.specs.declared.Ending.the-variants as Ending
 use Rattle.replay_course.specs.declared.Given.{Given}
 use Rattle.replay_course.specs.declared.Given.the-variants.{Failed, Nothing, Bytes}
-use Rattle.replay_course.specs.declared.Standing.{Standing}
+use Rattle.replay_course.specs.declared.Stage.{Stage}
 use Rattle.replay_course.specs.declared.Then.the-variants as Then
 
 -- Before the first call.
@@ -69,14 +69,14 @@ module _ {s : State} {buffer : List ℕ} {held base : ℕ} {done : Bool} {room :
   turn-near less near TooLong why = omega arith
 
 -- A write that fails stops the program.
-written : {at : Standing} {s : State} {buffer page : List ℕ} → Runs at s buffer page → (wrote : Bool) →
+written : {at : Stage} {s : State} {buffer page : List ℕ} → Runs at s buffer page → (wrote : Bool) →
     Runs (afterWrite at wrote) s buffer page
 written x true = x
 written x false = record { holds = tt; long = x .long; room = x .room; near = x .near }
 
 -- The program takes a turn, and writes what the page shows, or fails to.
-pub runs-turn : {at : Standing} {s : State} {buffer page : List ℕ} → Runs at s buffer page → at .then ≡ Then.Turn →
-    {state : State} {buffer' : List ℕ} {after : Standing} {page' : List ℕ} →
+pub runs-turn : {at : Stage} {s : State} {buffer page : List ℕ} → Runs at s buffer page → at .then ≡ Then.Turn →
+    {state : State} {buffer' : List ℕ} {after : Stage} {page' : List ℕ} →
     Advances s buffer at (length page) state buffer' after page' → (wrote : Bool) → Runs (afterWrite after wrote) state buffer' page'
 runs-turn {at} x e {state} {buffer'} {page' = page'} a wrote =
     let stands = rw e at (x .holds) in
@@ -92,17 +92,17 @@ runs-turn {at} x e {state} {buffer'} {page' = page'} a wrote =
     rw (a .stands) (written on wrote)
 
 -- Where the program stops because its run is over, all that was written is the printed run of all that was read.
-pub runs-over : {at : Standing} {s : State} {buffer page : List ℕ} → Runs at s buffer page → at .then ≡ Then.Stop Ending.Over →
+pub runs-over : {at : Stage} {s : State} {buffer page : List ℕ} → Runs at s buffer page → at .then ≡ Then.Stop Ending.Over →
     Finished s (at .base) (take (at .held) buffer) (at .done)
 runs-over x e = rw e at (x .holds)
 
 -- It stops because of the input's length nowhere before `farthest`.
-pub runs-too-long : {at : Standing} {s : State} {buffer page : List ℕ} → Runs at s buffer page → at .then ≡ Then.Stop Ending.TooLong →
+pub runs-too-long : {at : Stage} {s : State} {buffer page : List ℕ} → Runs at s buffer page → at .then ≡ Then.Stop Ending.TooLong →
     farthest ≤ at .base
 runs-too-long x e = rw e at (x .holds) .1
 
 -- What is used of the page stands on it.
-pub used-fits : {at : Standing} {s : State} {buffer : List ℕ} {room : ℕ} {state : State} {buffer' : List ℕ} {after : Standing}
+pub used-fits : {at : Stage} {s : State} {buffer : List ℕ} {room : ℕ} {state : State} {buffer' : List ℕ} {after : Stage}
     {page : List ℕ} → Advances s buffer at room state buffer' after page → after .used ≤ length page
 used-fits a = rw (a .stands) (a .turns .fits)
 
@@ -128,7 +128,7 @@ stands-filled held buffer x buffer' n same some room =
     }
 
 -- The program reads behind what the buffer holds.
-module _ {at : Standing} {s : State} {buffer page : List ℕ} (x : Runs at s buffer page) (e : at .then ≡ Then.Read) (buffer' : List ℕ)
+module _ {at : Stage} {s : State} {buffer page : List ℕ} (x : Runs at s buffer page) (e : at .then ≡ Then.Read) (buffer' : List ℕ)
     (same : take (at .held) buffer' ≡ take (at .held) buffer) (long : length buffer' ≡ length buffer)
     (got : ℤ) (lent : ℕ) (within : at .held + lent ≤ bufferRoom) where
   reading : Stands s (at .base) (take (at .held) buffer) false

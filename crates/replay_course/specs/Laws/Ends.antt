@@ -13,11 +13,11 @@ use Rattle.print_turn.specs.declared.Next.{Next}
 use Rattle.print_turn.specs.declared.Next.the-variants.{Again, Read, End, TooLong}
 use Rattle.replay_course.specs.Course.{last, Runs}
 use Rattle.replay_course.specs.Laws.Given.{given-within}
-use Rattle.replay_course.specs.Standing.{givenOf, takenIn, thenOf, Advances, afterWrite}
+use Rattle.replay_course.specs.Stage.{givenOf, takenIn, thenOf, Advances, afterWrite}
 use Rattle.replay_course.specs.declared.Ending.the-variants as Ending
 use Rattle.replay_course.specs.declared.Given.{Given}
 use Rattle.replay_course.specs.declared.Given.the-variants.{Failed, Nothing, Bytes}
-use Rattle.replay_course.specs.declared.Standing.{Standing}
+use Rattle.replay_course.specs.declared.Stage.{Stage}
 use Rattle.replay_course.specs.declared.Then.{Then}
 use Rattle.replay_course.specs.declared.Then.the-variants as Then
 
@@ -31,7 +31,7 @@ rank (Then.Stop why) = 0
 abbrev further : ℕ → ℕ → Bool → Then → ℕ
 further held base done then = 3 * ((last + (last + bufferRoom) + 2) - (base + (base + held) + cond done 1 0)) + rank then
 
-abbrev pub ahead : Standing → ℕ
+abbrev pub ahead : Stage → ℕ
 ahead at = further (at .held) (at .base) (at .done) (at .then)
 
 module _ (held base held' base' : ℕ) (exact : base' + held' ≡ base + held) (less : held' ≤ held) (room : held ≤ bufferRoom)
@@ -47,13 +47,13 @@ module _ (held base held' base' : ℕ) (exact : base' + held' ≡ base + held) (
   again false more = omega arith
 
 -- A write that fails stops the program.
-no-more : (at : Standing) (wrote : Bool) → ahead (afterWrite at wrote) ≤ ahead at
+no-more : (at : Stage) (wrote : Bool) → ahead (afterWrite at wrote) ≤ ahead at
 no-more at true = omega arith
 no-more at false = omega arith
 
-module _ {at : Standing} {s : State} {buffer page : List ℕ} (x : Runs at s buffer page) where
+module _ {at : Stage} {s : State} {buffer page : List ℕ} (x : Runs at s buffer page) where
   -- A turn, written or not.
-  module _ (e : at .then ≡ Then.Turn) {state : State} {buffer' : List ℕ} {after : Standing} {page' : List ℕ}
+  module _ (e : at .then ≡ Then.Turn) {state : State} {buffer' : List ℕ} {after : Stage} {page' : List ℕ}
       (a : Advances s buffer at (length page) state buffer' after page') where
     by-next : (next : Next) → Because next (at .base) (at .done) (take (a .turned .held) buffer') (a .turned) →
         further (a .turned .held) (a .turned .base) (at .done) (thenOf next) < further (at .held) (at .base) (at .done) Then.Turn

@@ -7,7 +7,7 @@ use borrow.Author.Tests.{ltb-true}
 use lib.IntN.{ℤ, pos, negsuc}
 use lib.Signed.{ltZ}
 use Rattle.io.specs.Counts.{clamped}
-use Rattle.replay_course.specs.Standing.{countGiven, givenOf}
+use Rattle.replay_course.specs.Stage.{countGiven, givenOf}
 use Rattle.replay_course.specs.declared.Given.the-variants.{Failed, Bytes}
 
 -- A number below zero says that it failed.

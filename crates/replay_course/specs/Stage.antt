@@ -12,12 +12,12 @@ use Rattle.print_turn.specs.declared.Turned.{Turned}
 use Rattle.replay_course.specs.declared.Ending.the-variants as Ending
 use Rattle.replay_course.specs.declared.Given.{Given}
 use Rattle.replay_course.specs.declared.Given.the-variants.{Failed, Nothing, Bytes}
-use Rattle.replay_course.specs.declared.Standing.{Standing}
+use Rattle.replay_course.specs.declared.Stage.{Stage}
 use Rattle.replay_course.specs.declared.Then.{Then}
 use Rattle.replay_course.specs.declared.Then.the-variants as Then
 
 -- nothing is held, and a turn is next
-abbrev pub begins : Standing
+abbrev pub begins : Stage
 begins = record { held = 0; base = 0; done = false; used = 0; then = Then.Turn }
 
 -- so many bytes were read: none is the input's end, and nothing else is
@@ -31,7 +31,7 @@ givenOf (negsuc k) lent = Failed
 givenOf (pos k) lent = countGiven (min k lent)
 
 -- what is given stands behind what is held; where the read failed the program stops
-abbrev pub takenIn : Standing → Given → Standing
+abbrev pub takenIn : Stage → Given → Stage
 takenIn before Failed =
     record { held = before .held; base = before .base; done = before .done; used = before .used; then = Then.Stop Ending.Unread }
 takenIn before Nothing = record { held = before .held; base = before .base; done = true; used = before .used; then = Then.Turn }
@@ -45,18 +45,18 @@ thenOf End = Then.Stop Ending.Over
 thenOf TooLong = Then.Stop Ending.TooLong
 
 -- where a turn leaves the program
-abbrev pub behind : Turned → Bool → Standing
+abbrev pub behind : Turned → Bool → Stage
 behind t done = record { held = t .held; base = t .base; done = done; used = t .used; then = thenOf (t .next) }
 
 -- the program takes a turn, and stands where it leaves the program
-pub record Advances (s : State) (buffer : List ℕ) (before : Standing) (room : ℕ) (state : State) (buffer' : List ℕ) (after : Standing)
+pub record Advances (s : State) (buffer : List ℕ) (before : Stage) (room : ℕ) (state : State) (buffer' : List ℕ) (after : Stage)
     (page : List ℕ) : Type 0 where
   pub turned : Turned
   pub turns : Turns s buffer (before .held) (before .base) (before .done) room state buffer' turned page
   pub stands : after ≡ behind turned (before .done)
 
 -- where a write failed the program stops
-abbrev pub afterWrite : Standing → Bool → Standing
+abbrev pub afterWrite : Stage → Bool → Stage
 afterWrite before true = before
 afterWrite before false =
     record { held = before .held; base = before .base; done = before .done; used = before .used; then = Then.Stop Ending.Unwritten }
