@@ -33,6 +33,14 @@ pub data Course : List ℕ → List ℕ → State → ℕ → List ℕ → Bool 
       (r .next ≡ End → ⊥) →
       Course read (written ++ take (r .used) page) state (r .base) held' done
 
+-- a program has read so much, and is not at the input's end
+pub record ShortOfEnd (read : List ℕ) : Type 0 where
+  pub written : List ℕ
+  pub state : State
+  pub base : ℕ
+  pub held : List ℕ
+  pub course : Course read written state base held false
+
 -- so many whole records of what was read are run from the fresh state on: the state is theirs, and what is held stands behind them
 pub record RunSoFar (read : List ℕ) (s : State) (base : ℕ) (held : List ℕ) : Type 0 where
   pub steps : ℕ

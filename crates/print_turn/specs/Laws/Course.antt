@@ -1,9 +1,10 @@
 -- What a program writes that takes turns from the fresh state on is the printed run of what it reads. Paper 01, "The printed run".
 -- Assumes nothing.
 use mathlib.Core.Bool.{Bool, true}
-use mathlib.Core.List.{List, _++_, append-assoc, append-nil}
+use mathlib.Core.List.{List, [], _∷_, _++_, append-assoc, append-nil}
 use mathlib.Core.Path.{_≡_, refl, sym, _∙_}
 use Prim.Native.Nat.{ℕ}
+use native.Mathlib.Omega.{arith}
 use lib.ListN.{take}
 use Rattle.record.specs.Record.{decode}
 use Rattle.protocol.specs.Sound.{sound}
@@ -13,7 +14,7 @@ use Rattle.ordering.specs.Laws.Runs.{fresh-sound}
 use Rattle.print_run.specs.Laws.Pieces.{printed-is-left}
 use Rattle.print_run.specs.Laws.Text.{prints}
 use Rattle.print_run.specs.Printed.{printed, Prints}
-use Rattle.print_turn.specs.Course.{Course}
+use Rattle.print_turn.specs.Course.{Course, ShortOfEnd}
 use Rattle.print_turn.specs.Course.Course.{begun, reads, turns}
 use Rattle.print_turn.specs.Laws.Turn.{leftBehind, shows-prints}
 use Rattle.print_turn.specs.Turn.{MayFollow, Shows, Over}
@@ -57,3 +58,12 @@ pub course-ends : {read written : List ℕ} {s : State} {base : ℕ} {held : Lis
 course-ends {read} {s = s} {base} {held} x {r = r} {page} shows e over more may =
     let all : left nameFor base s (held ++ more) ≡ take (r .used) page = shows-prints shows (λ _. over) more may ∙ rw (e, append-nil) in
     rw (← all, course-prints x more may) (prints fresh (read ++ more))
+
+-- A program is at the input's end only behind a read that gave nothing: all that it has read was read before.
+pub end-was-read : {read written : List ℕ} {s : State} {base : ℕ} {held : List ℕ} {done : Bool} → Course read written s base held done →
+    done ≡ true → ShortOfEnd read
+end-was-read begun e = let z : _≡_ {A = ℕ} 0 1 = cc in absurd (omega arith)
+end-was-read (reads {read} {written} {s} {base} {held} x []) e =
+    rw (append-nil read) (record { written = written; state = s; base = base; held = held; course = x })
+end-was-read (reads x (byte ∷ rest)) e = let z : _≡_ {A = ℕ} 0 1 = cc in absurd (omega arith)
+end-was-read (turns x shows go) e = end-was-read x e
