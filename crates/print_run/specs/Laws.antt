@@ -1,5 +1,5 @@
 -- The laws of a printed run: what stands in a part of a log, the whole records of a log, how a run ends, the run by steps, its text, runs
--- in pieces, the run of a piece, the last lines, the buffer between pieces, turns and all that they write, and the ordering claim.
+-- in pieces, and a run as a list of steps.
 pub mod Window
 pub mod Wholes
 pub mod Ending

@@ -4,4 +4,5 @@ pub mod Printed
 pub mod Wholes
 pub mod Pieces
 pub mod Laws
+pub mod Shown
 pub mod Listing

@@ -4,17 +4,14 @@ use mathlib.Core.Path.{_≡_, ap, _∙_}
 use mathlib.Core.List.{List, [], _∷_}
 use Prim.Native.Nat.{ℕ}
 use Rattle.print_page.specs.Ascii.{asciiLines}
-use Rattle.print_page.specs.Text.{decimal}
-use Rattle.print_lines.specs.Lines.{recordLine, pairLine, pairLines}
-use Rattle.protocol.specs.Laws.Opened.{opened}
 use Rattle.broker.specs.State.{fresh}
 use Rattle.ordering.specs.Worked.Listing.{log}
 use Rattle.ordering.specs.Laws.Runs.{fresh-sound}
-use Rattle.print_run.specs.Laws.Pieces.{printed-is-left, printed-in-pieces}
+use Rattle.print_run.specs.Laws.Pieces.{printed-in-pieces}
 use Rattle.print_run.specs.Pieces.{Turn, allBytes, inPieces}
 use Rattle.print_run.specs.Printed.{textOf, printed}
 use Rattle.print_run.specs.Run.{Naming}
-use Rattle.print_run.specs.Wholes.{closing, wholes, runFrom, left}
+use Rattle.print_run.specs.Shown.{shown, prints-shown}
 
 abbrev pub text : List ℕ
 text =
@@ -40,15 +37,10 @@ text =
     "pair 0 1 0 0 1 1" ∷
     "end" ∷ [])
 
--- what is left to print of the listing's log, all of it; where this is opened, all that it computes with is open
-unfoldable computed : Naming → List ℕ
-unfolding opened decimal recordLine pairLine pairLines wholes closing runFrom
-computed named = left named 0 fresh log
-
 -- The listing's log prints the listing, whatever rank a look would name.
 pub listing-prints : (named : Naming) → printed named fresh log ≡ text
-unfolding computed
-listing-prints named = printed-is-left named fresh log fresh-sound
+unfolding shown
+listing-prints named = prints-shown named log
 
 -- It does so in whatever pieces it is read.
 pub listing-in-pieces :

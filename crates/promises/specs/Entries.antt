@@ -48,7 +48,8 @@ pub record Makes (word n : ℕ) (buffer : List ℕ) (made : Made) (after : List 
       (made ≡ Written (length (madeLog n word)) (record { 0 = logLeaves n word })) ×
       (after ≡ madeLog n word ++ drop (length (madeLog n word)) buffer)
 
--- a turn of a program, from a state and what is held, whose first byte stands at a position of the input, and whether the input is at its end
+-- a turn of a program, from a state and what is held, whose first byte stands at a position of the input, and whether the input is at its
+-- end
 pub record TurnOfARun
     (s : State) (held : List ℕ) (base : ℕ) (done : Bool) (state : State) (held' : List ℕ) (r : Turned) (page : List ℕ) : Type 0 where
   -- where the state was sound so many whole records of what was held are run: the state is the one that they leave, what is held is what

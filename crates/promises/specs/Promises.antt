@@ -3,12 +3,13 @@
 -- call promise stands in src/lib.rt in the same way. Assumes nothing.
 use mathlib.Core.Bool.{Bool, true, false, not, _&&_}
 use mathlib.Core.List.{List, [], _∷_, _++_, map}
-use mathlib.Core.Logic.{_⊎_}
 use mathlib.Core.Option.{none, some}
 use mathlib.Core.Path.{_≡_, refl, sym, ap, _∙_}
 use Prim.Native.String.{String}
-use Prim.Native.Nat.{ℕ, _+_, _*_, _/_, _%_, _^_, _<_, _≤_}
+use Prim.Native.Nat.{ℕ, suc, _+_, _/_, _%_, _^_, _<_, _≤_, min}
 use lib.Dec.{leb}
+use native.Mathlib.Numerals.{unary-clauses}
+use lib.IntN.{negsuc, pos}
 use lib.ListN as ListN
 use lib.ListN.{length, getD, drop}
 use Rattle.answer.specs.Answer.{refusalNumber, number, values, NeverEighteen}
@@ -25,6 +26,9 @@ use Rattle.generator.specs.Laws.Read.{made-holds}
 use Rattle.generator.specs.Records.{Holds}
 use Rattle.generator_draw.specs.Draw.{words}
 use Rattle.generator_record.specs.MadeUp as MadeUp
+use Rattle.made_up_pass.specs.Course as PassCourse
+use Rattle.made_up_pass.specs.Ending.{Ends}
+use Rattle.made_up_pass.specs.declared.Ending.the-variants as Pass
 use Rattle.ordering.specs.Claim.{
   Reading,
   Entry,
@@ -54,12 +58,13 @@ use Rattle.print_run.specs.Listing.{listing-prints, listing-in-pieces}
 use Rattle.print_run.specs.Pieces.{Turn, allBytes, inPieces}
 use Rattle.print_run.specs.Printed.{printed, textOf}
 use Rattle.print_run.specs.Run.{Answered, Came, Naming, runLog}
+use Rattle.print_run.specs.Shown.{shown}
 use Rattle.print_run.specs.Wholes.{isWhole}
-use Rattle.print_turn.specs.Course.{Course, RunSoFar}
-use Rattle.print_turn.specs.Laws.Course.{course-ends}
+use Rattle.print_turn.specs.Course.{Course, RunSoFar, ShortOfEnd}
+use Rattle.print_turn.specs.Laws.Course.{course-ends, end-was-read}
 use Rattle.print_turn.specs.Laws.Runs.{turn-runs, course-runs}
 use Rattle.print_turn.specs.Turn.{bufferRoom, farthest, longest, Shows}
-use Rattle.print_turn.specs.declared.Next.the-variants.{End}
+use Rattle.print_turn.specs.declared.Next.the-variants.{Again, Read, End, TooLong}
 use Rattle.print_turn.specs.declared.Turned.{Turned}
 use Rattle.protocol.specs.Checks.{Check, checks, refusal}
 use Rattle.protocol.specs.Edges
@@ -79,12 +84,20 @@ use Rattle.protocol.specs.Laws.Values.{values-hold}
 use Rattle.protocol.specs.Messages.{unreadBetween, sentBetween}
 use Rattle.protocol.specs.Migrate
 use Rattle.protocol.specs.Sound.{sound}
-use Rattle.protocol.specs.Step.{Outcome, apply, step, stepSound, settle}
+use Rattle.protocol.specs.Step.{apply, step, stepSound, settle}
 use Rattle.protocol.specs.Values
 use Rattle.protocol.specs.Worked.Spent.{rows-in-order}
+use Rattle.replay_course.specs.Course.{Runs}
+use Rattle.replay_course.specs.Laws.Course.{runs-over, runs-too-long}
+use Rattle.replay_stage.specs.Stage.{givenOf, takenIn, thenOf, afterWrite}
+use Rattle.replay_stage.specs.Words.{wordsOf}
+use Rattle.replay_stage.specs.declared.Ending.the-variants as Ending
+use Rattle.replay_stage.specs.declared.Given.the-variants.{Failed, Nothing, Bytes}
+use Rattle.replay_stage.specs.declared.Stage.{Stage}
+use Rattle.replay_stage.specs.declared.Then.the-variants as Then
 use Rattle.record.specs.Laws.Record.{at-end, no-kind, cut-short, whole, value-back}
-use Rattle.record.specs.Record.{isKind, bodyLength, bodyAt, recordOf, decode, valueOf, bytesOf}
-use Rattle.record.specs.declared.Decoded.the-variants.{Whole, Unknown, Cut}
+use Rattle.record.specs.Record.{isKind, bodyLength, recordOf, decode, valueOf}
+use Rattle.record.specs.declared.Decoded.the-variants.{Whole, Unknown}
 use Rattle.record.specs.declared.Record.{Record}
 use Rattle.record.specs.declared.Record.the-variants.{Move, Look}
 use Rattle.transit.specs.Message.{ranks, placeOrder}
@@ -95,7 +108,7 @@ use Rattle.transit.specs.declared.Selection.the-variants.{Between}
 use Rattle.broker.specs.declared.process.Status.the-variants.{Running}
 use Rattle.broker.specs.declared.process.Vmid.{Vmid}
 use Rattle.promises.specs.Laws.Rows.{none-applies, none-applied}
-use Rattle.promises.specs.Laws.Shown.{shown, all-shown}
+use Rattle.promises.specs.Laws.Shown.{all-shown}
 use Rattle.promises.specs.Words.{Run, _prints_, start, call, route, send, take, move, heed, drain, land, part, end, look}
 
 -- Limits.
@@ -165,7 +178,8 @@ module _ (named : Rank) (s : State) (log : List ℕ) (at : ℕ) where
             step-accepted named s log at read (at + 1 + bodyLength (getD log at 0)) ok (whole log at inside known long)
             (none-applies s read checks h)
 
-        -- "The lowest number that applies is given"; "A refusal leaves the state lent for a step unchanged"; "The position passes the record"
+        -- "The lowest number that applies is given"; "A refusal leaves the state lent for a step unchanged"; "The position passes the
+        -- record"
         pub first-row-refuses : (before later : List Check) (row : Check) → checks ≡ before ++ row ∷ later →
             every (λ (c : Check). not (c .given s read)) before ≡ true → row .given s read ≡ true →
             step named s log at ≡
@@ -224,9 +238,10 @@ pub record OrderingClaim (xs : List Reading) (end : State) : Type 0 where
   -- "each pair's taken values then unread values are exactly its sent values in order"
   pub taken-then-unread : (a b : Rank) → a .0 < 16 → b .0 < 16 →
       taken a b (accepted fresh xs) ++ unread a b end ≡ sent a b (accepted fresh xs)
-  -- "where no move is open, an equivalent list with unbroken moves exists": it is carried out as it stands; "The second list has the first's
-  -- accepted starts, moves, sends, takes and ends with the same kinds and bodies, in one order over all five"; each pair has taken the same
-  -- and has the same unread; "Standing, and host and number of the current end .. are compared in the states that the two lists leave"
+  -- "where no move is open, an equivalent list with unbroken moves exists": it is carried out as it stands; "The second list has the
+  -- first's accepted starts, moves, sends, takes and ends with the same kinds and bodies, in one order over all five"; each pair has taken
+  -- the same and has the same unread; "Standing, and host and number of the current end .. are compared in the states that the two lists
+  -- leave"
   pub second-list : noMoveOpen end ≡ true →
       (list : List Reading) ×
       (areBytes xs ≡ true → areBytes list ≡ true) ×
@@ -297,8 +312,8 @@ value-in-four-bytes = value-back
 
 -- Printed runs.
 
--- "Cases A to J below form one table whose truth, as a whole, is a theorem of the definitions.": "From a fresh desk, ranks 0 and 1 started on
--- hosts 0 and 1 where C to J need them running": each case as the run that it prints.
+-- "Cases A to J below form one table whose truth, as a whole, is a theorem of the definitions.": "From a fresh desk, ranks 0 and 1 started
+-- on hosts 0 and 1 where C to J need them running": each case as the run that it prints.
 abbrev pub edges : List Run
 edges =
     -- "A start 15 on 7 accepted."
@@ -384,8 +399,8 @@ kinds-of-steps =
     (three ++ join ++ send 0 1 10 ++ send 1 0 20 ++ send 0 1 11 ++ move 1 6 ++ send 0 1 12) prints
     (three-lines ++ join-lines ++ "15 04 0 1 0 0" ∷ "22 04 0 1 0 0" ∷ "29 04 0 2 0 0" ∷ "36 06 0 6 2 1" ∷ "39 04 0 3 0 0" ∷
     "pair 0 1 0 3 0 0" ∷ "pair 1 0 0 0 0 1" ∷ "end" ∷ []) ∷
-    -- 05 take: "the first unread message from a to b in place order leaves. v1 value, v2 unread of the pair afterwards."; paper 02, change 4:
-    -- "A take gives it as v3"
+    -- 05 take: "the first unread message from a to b in place order leaves. v1 value, v2 unread of the pair afterwards."; paper 02,
+    -- change 4: "A take gives it as v3"
     (three ++ join ++ send 0 1 513 ++ send 1 0 20 ++ send 0 1 11 ++ take 1 0 ++ take 1 0 ++ take 1 0 ++ take 0 1) prints
     (three-lines ++ join-lines ++ "15 04 0 1 0 0" ∷ "22 04 0 1 0 0" ∷ "29 04 0 2 0 0" ∷ "36 05 0 513 1 1" ∷ "39 05 0 11 0 2" ∷
     "42 05 22 0 0 0" ∷ "45 05 0 20 0 1" ∷ "end" ∷ []) ∷
@@ -496,7 +511,8 @@ pub ordering-claim-in-any-pieces : (named : Naming) (ts : List Turn) →
     OrderingClaim (readings named (length (allBytes ts)) fresh (allBytes ts) 0) (inPieces named 0 fresh [] ts .state)
 ordering-claim-in-any-pieces named ts =
     let log = allBytes ts in
-    let same = readings-run named (length log) fresh log 0 .0 ∙ ap (λ (c : Came). c .state) (sym (run-in-pieces named ts fresh fresh-sound)) in
+    let in-pieces = ap (λ (c : Came). c .state) (sym (run-in-pieces named ts fresh fresh-sound)) in
+    let same = readings-run named (length log) fresh log 0 .0 ∙ in-pieces in
     rw same at (ordering-claim (readings named (length log) fresh log 0))
 
 -- Demand 3 of what so many whole records of a log leave.
@@ -510,11 +526,11 @@ leaves {read} {s} x =
     ap (λ (c : Came). c .state) (sym (x .ran .came)) in
     (x .steps, same, x .rest, rw same at (ordering-claim xs))
 
--- What a program reads and writes that takes turns from the fresh state on: it reads behind what is held, an empty read is the input's end and
--- nothing else is, and it writes what each turn puts on the page.
+-- What a program reads and writes that takes turns from the fresh state on: it reads behind what is held, an empty read is the input's end
+-- and nothing else is, and it writes what each turn puts on the page.
 module _ {read written : List ℕ} {s : State} {base : ℕ} {held : List ℕ} {done : Bool} (course : Course read written s base held done) where
-  -- After any number of turns the state is the one that a list of steps of what was read leaves, what is held is the rest of it, and demand 3
-  -- holds of it.
+  -- After any number of turns the state is the one that a list of steps of what was read leaves, what is held is the rest of it, and
+  -- demand 3 holds of it.
   pub program-keeps-the-order : (n : ℕ) × (after fresh (readings nameFor n fresh read 0) ≡ s) × (held ≡ drop base read) ×
       OrderingClaim (readings nameFor n fresh read 0) s
   program-keeps-the-order = leaves (course-runs course)
@@ -536,6 +552,71 @@ module _ {read written : List ℕ} {s : State} {base : ℕ} {held : List ℕ} {d
         let p = course-ends course shows e (whole, unknown) more may in
         (p .named, λ t q passes. rw passes at (p .fits t (Look q)), p .same)
 
+  -- The input is at its end only where a read gave nothing behind all that was read.
+  pub end-of-input-is-an-empty-read : done ≡ true → ShortOfEnd read
+  end-of-input-is-an-empty-read = end-was-read course
+
+-- What the program `replay` does with what its calls give.
+
+-- A read that answers below zero has failed; one that gives nothing is the input's end, and no other is.
+pub what-a-read-gave :
+    ((k room : ℕ) → givenOf (negsuc k) room ≡ Failed) ×
+    ((room : ℕ) → givenOf (pos 0) room ≡ Nothing) ×
+    ((k room : ℕ) → givenOf (pos (suc k)) (suc room) ≡ Bytes (suc (min k room)))
+what-a-read-gave = (λ k room. refl, λ room. simp unary-clauses, λ k room. simp unary-clauses)
+
+-- What it gave is held behind what was held; only where it gave nothing the input is at its end; where it failed the program stops.
+pub what-a-read-does : (at : Stage) →
+    (takenIn at Failed ≡
+    record { held = at .held; base = at .base; done = at .done; used = at .used; then = Then.Stop Ending.Unread }) ×
+    (takenIn at Nothing ≡ record { held = at .held; base = at .base; done = true; used = at .used; then = Then.Turn }) ×
+    ((n : ℕ) → takenIn at (Bytes n) ≡
+    record { held = at .held + n; base = at .base; done = false; used = at .used; then = Then.Turn })
+what-a-read-does at = (refl, refl, λ n. refl)
+
+-- Behind a turn it takes another, reads, or stops; and where a write fails it stops.
+pub what-a-turn-and-a-write-do :
+    (thenOf Again ≡ Then.Turn) × (thenOf Read ≡ Then.Read) × (thenOf End ≡ Then.Stop Ending.Over) ×
+    (thenOf TooLong ≡ Then.Stop Ending.TooLong) ×
+    ((at : Stage) → (afterWrite at true ≡ at) ×
+    (afterWrite at false ≡
+    record { held = at .held; base = at .base; done = at .done; used = at .used; then = Then.Stop Ending.Unwritten }))
+what-a-turn-and-a-write-do = (refl, refl, refl, refl, λ at. (refl, refl))
+
+-- What it says as it ends.
+pub what-replay-says :
+    (wordsOf Ending.Over ≡ []) ×
+    (wordsOf Ending.Unwritten ≡ asciiLines ("replay: standard output cannot be written" ∷ [])) ×
+    (wordsOf Ending.Unread ≡ asciiLines ("replay: standard input cannot be read" ∷ [])) ×
+    (wordsOf Ending.TooLong ≡ asciiLines ("replay: standard input is too long" ∷ []))
+what-replay-says = (refl, refl, refl, refl)
+
+-- Where its loop stops because the run is over, all that was handed to the output is the printed run of all that was read, and the state is
+-- that of so many whole records of it; and it stops because of the input's length from position 2^63 on alone.
+module _ {at : Stage} {s : State} {buffer page : List ℕ} (runs : Runs at s buffer page) where
+  pub replay-prints-the-run : at .then ≡ Then.Stop Ending.Over →
+      (read : List ℕ) × (written : List ℕ) ×
+      ((more : List ℕ) → (at .done ≡ true → more ≡ []) →
+      (named : Naming) ×
+      ((t : State) (q : Rank) → refusal t (Look q) ≡ none → 0 < unreadBetween (named t (Look q)) q t) ×
+      (written ≡ printed named fresh (read ++ more))) ×
+      (n : ℕ) × (after fresh (readings nameFor n fresh read 0) ≡ s) × (ListN.take (at .held) buffer ≡ drop (at .base) read) ×
+      OrderingClaim (readings nameFor n fresh read 0) s
+  replay-prints-the-run e =
+      let over = runs-over runs e in
+      let end = leaves (over .runs) in (
+        over .read,
+        over .written,
+        λ more may. let p = over .prints more may in (p .named, λ t q passes. rw passes at (p .fits t (Look q)), p .same),
+        end .0,
+        end .1,
+        end .2,
+        end .3,
+      )
+
+  pub replay-stops-at-2^63 : at .then ≡ Then.Stop Ending.TooLong → 9223372036854775808 ≤ at .base
+  replay-stops-at-2^63 = runs-too-long runs
+
 -- Paper 02, change 1.
 
 -- "a log of n records": each whole, of a known kind, with ranks and hosts in range, and behind them the log's end
@@ -554,3 +635,11 @@ pub made-up-log-goes-on : (word n m : ℕ) (whole first second : List ℕ) → m
     ListN.take (makes word n first .bytes) (makes word n first .buffer) ++
     ListN.take (makes (makes word n first .word) m second .bytes) (makes (makes word n first .word) m second .buffer)
 made-up-log-goes-on = in-two-parts
+
+-- The program `made_up`: it has handed all of the pass to the output, or it is refused with 26, for seed zero alone, or the output failed.
+pub made-up-hands-over-the-pass : (seed count : ℕ) → Ends seed count Pass.Whole →
+    (seed ≡ 0 → ⊥) × (word : ℕ) × (written : List ℕ) × PassCourse.Course seed count word 0 written × (written ≡ MadeUp.madeLog count seed)
+made-up-hands-over-the-pass seed count h = (h .good, h .word, h .written, h .course, h .pass)
+
+pub made-up-is-refused-for-seed-zero : (seed count n : ℕ) → Ends seed count (Pass.Refused n) → (n ≡ 26) × (seed ≡ 0)
+made-up-is-refused-for-seed-zero seed count n h = h

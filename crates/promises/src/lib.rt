@@ -1,6 +1,6 @@
 // The entries that users call, each behind a function that does nothing but call it and says in full what it promises.
 ghost use mathlib.Core.Bool.{true};
-ghost use mathlib.Core.List.{List, _++_, []};
+ghost use mathlib.Core.List.{List, []};
 ghost use mathlib.Core.Path.{_≡_};
 ghost use Prim.Native.Nat.{_+_, _^_, _<_, _≤_};
 ghost use lib.ListN.{length, take, replicate};

@@ -9,10 +9,10 @@ use Rattle.broker.specs.State.{State, fresh}
 use Rattle.print_run.specs.Printed.{Prints}
 use Rattle.print_turn.specs.Course.{Course, RunSoFar}
 use Rattle.print_turn.specs.Turn.{bufferRoom, farthest, longest, MayFollow}
-use Rattle.replay_course.specs.declared.Ending.the-variants.{Over, Unwritten, Unread, TooLong}
-use Rattle.replay_course.specs.declared.Stage.{Stage}
-use Rattle.replay_course.specs.declared.Then.{Then}
-use Rattle.replay_course.specs.declared.Then.the-variants.{Turn, Read, Stop}
+use Rattle.replay_stage.specs.declared.Ending.the-variants.{Over, Unwritten, Unread, TooLong}
+use Rattle.replay_stage.specs.declared.Stage.{Stage}
+use Rattle.replay_stage.specs.declared.Then.{Then}
+use Rattle.replay_stage.specs.declared.Then.the-variants.{Turn, Read, Stop}
 
 -- a program stands so in some course
 pub record Stands (s : State) (base : ℕ) (held : List ℕ) (done : Bool) : Type 0 where

@@ -1,4 +1,3 @@
 -- Laws of the definitions.
 pub mod Course
 pub mod Ends
-pub mod Given

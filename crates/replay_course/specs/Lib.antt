@@ -1,5 +1,4 @@
--- Where the program `replay` stands, how that goes on in a course, what it says as it ends, and laws of these.
+-- A turn of the program `replay`, how it goes on in a course, and laws of these.
+pub mod Advances
 pub mod Course
 pub mod Laws
-pub mod Stage
-pub mod Words

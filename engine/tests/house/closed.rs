@@ -19,13 +19,16 @@ const OPENING: &str = "transit.specs.Opened.openedUnread";
 const PROMISE: [&str; 5] = ["Operations", "Removed", "Promise", "Order", "Pairs"];
 
 /// What is computed outside of the worked examples: a step, paper 01's edges,
-/// values and listing.
-const COMPUTED: [&str; 5] = [
+/// values and listing, and the runs on the page of promises.
+const COMPUTED: [&str; 8] = [
     "protocol.specs.Laws.Opened.opened",
     "protocol.specs.Laws.Edges.edges-hold",
     "protocol.specs.Laws.Values.values-hold",
-    "print_run.specs.Listing.computed",
+    "print_run.specs.Shown.shown",
+    "print_run.specs.Shown.prints-shown",
     "print_run.specs.Listing.listing-prints",
+    "promises.specs.Promises.edges-print",
+    "promises.specs.Promises.kinds-print",
 ];
 
 /// How a line begins that hands on a name together with the right to open it.

@@ -5,7 +5,7 @@ use crate::code::plain_part;
 use crate::tree::Source;
 
 /// The programs whose `main` is held to it.
-const PROGRAMS: [&str; 1] = ["crates/replay/src/main.rt"];
+const PROGRAMS: [&str; 2] = ["crates/made_up/src/main.rt", "crates/replay/src/main.rt"];
 
 /// What stands in no program: a test, a comparison, a sum, a truth of its own,
 /// a loop with a condition.
@@ -23,13 +23,13 @@ fn programs_decide_nothing() {
     assert!(found.is_empty(), "{}", found.join("\n"));
 }
 
-/// Each line of code that decides something or has a number of its own, each
-/// `return` but the last arm's, and each `match` and `loop` but the first.
+/// Each line of code that decides something or has a number of its own, and in
+/// each function a `return`, a `match` and a `loop` but the first.
 fn decisions(source: &Source) -> Vec<String> {
     let mut found = Vec::new();
     let code = plain_part(&source.text);
     for (line, content) in (1..).zip(code.lines()) {
-        let content = without_arrays(&content.replace("=>", ""));
+        let content = without_arrays(&content.replace("=>", "").replace("->", ""));
         for decision in DECISIONS.iter().filter(|d| content.contains(*d)) {
             found.push(source.at(line, format!("has `{}`", decision.trim_end())));
         }
@@ -37,10 +37,14 @@ fn decisions(source: &Source) -> Vec<String> {
             found.push(source.at(line, "has a number"));
         }
     }
-    for once in ["return", "match ", "loop ", "fn "] {
-        let count = code.matches(once).count();
-        if count > 1 {
-            found.push(source.at(1, format!("has `{}` {count} times", once.trim_end())));
+    for function in code.split("fn ").skip(1) {
+        let name = function.split('(').next().unwrap_or_default();
+        for once in ["return", "match ", "loop "] {
+            let count = function.matches(once).count();
+            if count > 1 {
+                let once = once.trim_end();
+                found.push(source.at(1, format!("{name} has `{once}` {count} times")));
+            }
         }
     }
     found
@@ -74,10 +78,10 @@ mod tests {
     #[test]
     fn a_stop_by_itself_is_found() {
         assert_eq!(found("if FARTHEST < base { return; }"), 2);
-        assert_eq!(found("standing = take_in(standing, 0, lent);"), 1);
+        assert_eq!(found("stage = take_in(stage, 0, lent);"), 1);
         assert_eq!(found("let got = got - got;"), 1);
         assert_eq!(found("let wrote = true;"), 1);
-        assert_eq!(found("while more(standing) {"), 1);
+        assert_eq!(found("while more(stage) {"), 1);
         assert_eq!(found("return; } return;"), 1);
         assert_eq!(found("let mut slots = [0u16; SLOTS_LENGTH];"), 0);
         assert_eq!(found("Then::Turn => {"), 0);

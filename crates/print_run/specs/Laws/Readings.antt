@@ -1,5 +1,5 @@
--- The steps that a run takes are a list of steps, and it leaves what the list leaves: so all that is claimed of lists of steps holds of runs.
--- Paper 01, "Lists of steps". Assumes nothing.
+-- The steps that a run takes are a list of steps, and it leaves what the list leaves: so all that is claimed of lists of steps holds of
+-- runs. Paper 01, "Lists of steps". Assumes nothing.
 use mathlib.Core.Path.{_≡_, refl}
 use mathlib.Core.Bool.{cond}
 use mathlib.Core.List.{List, [], _∷_, map}

@@ -11,7 +11,12 @@ returns c =
     let stops = done .1 .1 in (
       done .0,
       (
-        (some .answers, some .shown, never-in-a-run (some .answers) (some .never-eighteen), λ ok. (some .ran ok .counted, some .ran ok .came)),
+        (
+          some .answers,
+          some .shown,
+          never-in-a-run (some .answers) (some .never-eighteen),
+          λ ok. (some .ran ok .counted, some .ran ok .came),
+        ),
         ((some .inside, some .fits), (some .keeps, (λ e. rw e at stops, (λ e. rw e at stops, λ e. rw e at stops)))),
       ),
     )

@@ -1,10 +1,8 @@
 -- Rows of the table of checks that do not apply, as a test of each of them. Assumes nothing.
-use mathlib.Core.Bool.{Bool, true, false, not, cond, _&&_}
+use mathlib.Core.Bool.{Bool, true, false, not}
 use mathlib.Core.List.{List, [], _∷_}
-use mathlib.Core.Option.{none, some}
+use mathlib.Core.Option.{none}
 use mathlib.Core.Path.{_≡_, refl}
-use Prim.Native.Nat.{ℕ}
-use native.Mathlib.Omega.{arith}
 use Rattle.base.specs.Laws.Tests.{by-test}
 use Rattle.base.specs.Lists.{every}
 use Rattle.broker.specs.State.{State}

@@ -17,13 +17,14 @@ use Rattle.print_turn.specs.declared.Next.{Next}
 use Rattle.print_turn.specs.declared.Next.the-variants.{Again, Read, End, TooLong}
 use Rattle.print_turn.specs.declared.Turned.{Turned}
 use Rattle.replay_course.specs.Course.{Stands, Finished, Holds, last, Runs}
-use Rattle.replay_course.specs.Laws.Given.{given-within}
-use Rattle.replay_course.specs.Stage.{begins, givenOf, takenIn, thenOf, behind, Advances, afterWrite}
-use Rattle.replay_course.specs.declared.Ending.the-variants as Ending
-use Rattle.replay_course.specs.declared.Given.{Given}
-use Rattle.replay_course.specs.declared.Given.the-variants.{Failed, Nothing, Bytes}
-use Rattle.replay_course.specs.declared.Stage.{Stage}
-use Rattle.replay_course.specs.declared.Then.the-variants as Then
+use Rattle.replay_stage.specs.Laws.Given.{given-within}
+use Rattle.replay_course.specs.Advances.{behind, Advances}
+use Rattle.replay_stage.specs.Stage.{begins, givenOf, takenIn, thenOf, afterWrite}
+use Rattle.replay_stage.specs.declared.Ending.the-variants as Ending
+use Rattle.replay_stage.specs.declared.Given.{Given}
+use Rattle.replay_stage.specs.declared.Given.the-variants.{Failed, Nothing, Bytes}
+use Rattle.replay_stage.specs.declared.Stage.{Stage}
+use Rattle.replay_stage.specs.declared.Then.the-variants as Then
 
 -- Before the first call.
 pub runs-begun : (buffer page : List ℕ) → length buffer ≡ bufferRoom → length page ≡ bufferRoom → Runs begins fresh buffer page

@@ -12,14 +12,15 @@ use Rattle.print_turn.specs.Turn.{bufferRoom, Because}
 use Rattle.print_turn.specs.declared.Next.{Next}
 use Rattle.print_turn.specs.declared.Next.the-variants.{Again, Read, End, TooLong}
 use Rattle.replay_course.specs.Course.{last, Runs}
-use Rattle.replay_course.specs.Laws.Given.{given-within}
-use Rattle.replay_course.specs.Stage.{givenOf, takenIn, thenOf, Advances, afterWrite}
-use Rattle.replay_course.specs.declared.Ending.the-variants as Ending
-use Rattle.replay_course.specs.declared.Given.{Given}
-use Rattle.replay_course.specs.declared.Given.the-variants.{Failed, Nothing, Bytes}
-use Rattle.replay_course.specs.declared.Stage.{Stage}
-use Rattle.replay_course.specs.declared.Then.{Then}
-use Rattle.replay_course.specs.declared.Then.the-variants as Then
+use Rattle.replay_stage.specs.Laws.Given.{given-within}
+use Rattle.replay_course.specs.Advances.{Advances}
+use Rattle.replay_stage.specs.Stage.{givenOf, takenIn, thenOf, afterWrite}
+use Rattle.replay_stage.specs.declared.Ending.the-variants as Ending
+use Rattle.replay_stage.specs.declared.Given.{Given}
+use Rattle.replay_stage.specs.declared.Given.the-variants.{Failed, Nothing, Bytes}
+use Rattle.replay_stage.specs.declared.Stage.{Stage}
+use Rattle.replay_stage.specs.declared.Then.{Then}
+use Rattle.replay_stage.specs.declared.Then.the-variants as Then
 
 -- a turn may be followed by a read, and both by a stop
 abbrev rank : Then → ℕ

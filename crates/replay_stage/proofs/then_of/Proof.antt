@@ -1,7 +1,7 @@
--- `replay_course::then_of` meets its contract: each arm has its answer. Assumes nothing.
+-- `replay_stage::then_of` meets its contract: each arm has its answer. Assumes nothing.
 use borrow.Author.Needs.{needs}
-use Rattle.replay_course.proofs.then_of.Statement.{statement}
-use Rattle.replay_course.proofs.then_of.Tie as tie
+use Rattle.replay_stage.proofs.then_of.Statement.{statement}
+use Rattle.replay_stage.proofs.then_of.Tie as tie
 
 pub then-of-spec : {M : Type 1} → statement M
 then-of-spec =

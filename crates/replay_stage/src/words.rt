@@ -2,7 +2,7 @@
 ghost use Prim.Native.Nat.{_≤_};
 ghost use lib.ListN.{length};
 ghost use Rattle.print_page.specs.Put.{Put};
-ghost use Rattle.replay_course.specs.Words.{wordsOf, wordsRoom};
+ghost use Rattle.replay_stage.specs.Words.{wordsOf, wordsRoom};
 use crate::Ending;
 use print_text::put_text;
 

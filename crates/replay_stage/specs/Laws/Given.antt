@@ -7,8 +7,8 @@ use borrow.Author.Tests.{ltb-true}
 use lib.IntN.{ℤ, pos, negsuc}
 use lib.Signed.{ltZ}
 use Rattle.io.specs.Counts.{clamped}
-use Rattle.replay_course.specs.Stage.{countGiven, givenOf}
-use Rattle.replay_course.specs.declared.Given.the-variants.{Failed, Bytes}
+use Rattle.replay_stage.specs.Stage.{countGiven, givenOf}
+use Rattle.replay_stage.specs.declared.Given.the-variants.{Failed, Bytes}
 
 -- A number below zero says that it failed.
 pub given-failed : (got : ℤ) (lent : ℕ) → ltZ got (pos 0) ≡ true → givenOf got lent ≡ Failed

@@ -1,14 +1,14 @@
--- `replay_course::take_in` meets its contract: each arm has its answer. Assumes nothing.
+-- `replay_stage::take_in` meets its contract: each arm has its answer. Assumes nothing.
 use mathlib.Core.Path.{ap, sym, _∙_}
 use native.Mathlib.Omega.{arith}
 use borrow.Author.Needs.{needs}
 use lib.ListN.{length}
 use mir.Syntax.{w64}
 use mir.ValLaws.{toZ-ofZ}
-use Rattle.replay_course.specs.Laws.Given.{given-within}
-use Rattle.replay_course.specs.Stage.{takenIn}
-use Rattle.replay_course.proofs.take_in.Statement.{statement}
-use Rattle.replay_course.proofs.take_in.Tie as tie
+use Rattle.replay_stage.specs.Laws.Given.{given-within}
+use Rattle.replay_stage.specs.Stage.{takenIn}
+use Rattle.replay_stage.proofs.take_in.Statement.{statement}
+use Rattle.replay_stage.proofs.take_in.Tie as tie
 
 add-t11 : tie.Need-add-t11
 add-t11 c =

@@ -1,20 +1,15 @@
 -- Where the program `replay` stands, and what each of its calls does to that. Paper 01, "The printed run". Assumes nothing.
 use mathlib.Core.Bool.{Bool, true, false}
-use mathlib.Core.List.{List}
-use mathlib.Core.Path.{_≡_}
 use Prim.Native.Nat.{ℕ, zero, suc, _+_, min}
 use lib.IntN.{ℤ, pos, negsuc}
-use Rattle.broker.specs.State.{State}
-use Rattle.print_turn.specs.Turn.{Turns}
 use Rattle.print_turn.specs.declared.Next.{Next}
 use Rattle.print_turn.specs.declared.Next.the-variants.{Again, Read, End, TooLong}
-use Rattle.print_turn.specs.declared.Turned.{Turned}
-use Rattle.replay_course.specs.declared.Ending.the-variants as Ending
-use Rattle.replay_course.specs.declared.Given.{Given}
-use Rattle.replay_course.specs.declared.Given.the-variants.{Failed, Nothing, Bytes}
-use Rattle.replay_course.specs.declared.Stage.{Stage}
-use Rattle.replay_course.specs.declared.Then.{Then}
-use Rattle.replay_course.specs.declared.Then.the-variants as Then
+use Rattle.replay_stage.specs.declared.Ending.the-variants as Ending
+use Rattle.replay_stage.specs.declared.Given.{Given}
+use Rattle.replay_stage.specs.declared.Given.the-variants.{Failed, Nothing, Bytes}
+use Rattle.replay_stage.specs.declared.Stage.{Stage}
+use Rattle.replay_stage.specs.declared.Then.{Then}
+use Rattle.replay_stage.specs.declared.Then.the-variants as Then
 
 -- nothing is held, and a turn is next
 abbrev pub begins : Stage
@@ -43,17 +38,6 @@ thenOf Again = Then.Turn
 thenOf Read = Then.Read
 thenOf End = Then.Stop Ending.Over
 thenOf TooLong = Then.Stop Ending.TooLong
-
--- where a turn leaves the program
-abbrev pub behind : Turned → Bool → Stage
-behind t done = record { held = t .held; base = t .base; done = done; used = t .used; then = thenOf (t .next) }
-
--- the program takes a turn, and stands where it leaves the program
-pub record Advances (s : State) (buffer : List ℕ) (before : Stage) (room : ℕ) (state : State) (buffer' : List ℕ) (after : Stage)
-    (page : List ℕ) : Type 0 where
-  pub turned : Turned
-  pub turns : Turns s buffer (before .held) (before .base) (before .done) room state buffer' turned page
-  pub stands : after ≡ behind turned (before .done)
 
 -- where a write failed the program stops
 abbrev pub afterWrite : Stage → Bool → Stage

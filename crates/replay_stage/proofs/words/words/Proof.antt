@@ -1,11 +1,11 @@
--- `replay_course::words::words` meets its contract: each ending has its words, which the definition gives. Assumes nothing.
+-- `replay_stage::words::words` meets its contract: each ending has its words, which the definition gives. Assumes nothing.
 use mathlib.Core.Path.{ap, sym}
 use native.Mathlib.Omega.{arith}
 use borrow.Author.Needs.{needs}
 use Rattle.print_page.specs.Laws.Put.{nothing, at-most, as-text}
-use Rattle.replay_course.specs.Words.{wordsOf}
-use Rattle.replay_course.proofs.words.words.Statement.{statement}
-use Rattle.replay_course.proofs.words.words.Tie as tie
+use Rattle.replay_stage.specs.Words.{wordsOf}
+use Rattle.replay_stage.proofs.words.words.Statement.{statement}
+use Rattle.replay_stage.proofs.words.words.Tie as tie
 
 returns : tie.Need-returns
 returns c = as-text (at-most nothing (omega arith)) (ap wordsOf (sym (c .enum-told .given .1)))

@@ -1,12 +1,12 @@
--- `replay_course::read_gave` meets its contract: a number below zero is a failure, and no byte is the input's end. Assumes nothing.
+-- `replay_stage::read_gave` meets its contract: a number below zero is a failure, and no byte is the input's end. Assumes nothing.
 use mathlib.Core.Path.{ap, sym, _∙_}
 use borrow.Author.Needs.{needs}
 use mir.Syntax.{w64}
 use mir.ValLaws.{toZ-ofZ}
-use Rattle.replay_course.specs.Laws.Given.{given-failed, given-counts, given-bytes}
-use Rattle.replay_course.specs.Stage.{countGiven}
-use Rattle.replay_course.proofs.read_gave.Statement.{statement}
-use Rattle.replay_course.proofs.read_gave.Tie as tie
+use Rattle.replay_stage.specs.Laws.Given.{given-failed, given-counts, given-bytes}
+use Rattle.replay_stage.specs.Stage.{countGiven}
+use Rattle.replay_stage.proofs.read_gave.Statement.{statement}
+use Rattle.replay_stage.proofs.read_gave.Tie as tie
 
 returns : tie.Need-returns
 returns c =

@@ -2,8 +2,8 @@
 use mathlib.Core.List.{List, [], _∷_}
 use Prim.Native.Nat.{ℕ}
 use Rattle.print_page.specs.Ascii.{asciiLines}
-use Rattle.replay_course.specs.declared.Ending.{Ending}
-use Rattle.replay_course.specs.declared.Ending.the-variants.{Over, Unwritten, Unread, TooLong}
+use Rattle.replay_stage.specs.declared.Ending.{Ending}
+use Rattle.replay_stage.specs.declared.Ending.the-variants.{Over, Unwritten, Unread, TooLong}
 
 -- the words for each ending; a run that is over has none, as its last line says so
 abbrev pub wordsOf : Ending → List ℕ
