@@ -1,9 +1,11 @@
-// A program that hands in a state to which only a log of some 43 billion bytes leads: rank 0 has sent rank 1 all but one of 4,294,967,295
-// messages. Paper 02, change 4: "28 for a send when the pair has already sent 4,294,967,295".
+// A program that hands in states to which only a log of some 43 billion bytes leads: rank 0 has sent rank 1 all but one of 4,294,967,295
+// messages; and every pair has sent all of them, where each other check of a send applies too. Paper 02, change 4: "28 for a send when the
+// pair has already sent 4,294,967,295, tested after 25".
 use answer::Values;
 use broker::state::Broker;
 use libc::STDOUT_FILENO;
 use steps::step;
+use transit::CELLS;
 use transit::Sequence;
 use transit::Transit;
 
@@ -38,6 +40,28 @@ fn all_but_one(broker: Broker) -> Broker {
     next
 }
 
+// The state in which every pair has sent all that it can.
+fn all_sent(broker: Broker) -> Broker {
+    let sent = [Transit::MOST_SENT; CELLS];
+    let mut transit = broker.transit;
+    transit.sent = sent;
+    let mut next = broker;
+    next.transit = transit;
+    next
+}
+
+// The state in which rank 0 has sent rank 1 as many messages as the desk holds.
+fn full(start: Broker) -> Broker {
+    let mut broker = start;
+    let mut unread: usize = 0;
+    while unread < Transit::LIMIT {
+        let done = step(broker, b"\x04\x00\x01\xF4\x01\x00\x00", 0);
+        broker = done.broker;
+        unread += 1;
+    }
+    broker
+}
+
 // Every record of a log, from a state: what each is answered, and the state afterwards.
 fn run(start: Broker, log: &[u8]) -> Broker {
     let mut broker = start;
@@ -56,8 +80,9 @@ fn run(start: Broker, log: &[u8]) -> Broker {
     broker
 }
 
-// The first log has the records start 0 0, start 1 1, call 0 1 and route 0 1; the second send 0 1 500, send 0 1 501, send 1 0 502,
-// take 1 0 and send 0 1 503.
+// Ranks 0 and 1 are joined, by start 0 0, start 1 1, call 0 1 and route 0 1. Then come send 0 1 500, send 0 1 501, send 1 0 502, take 1 0
+// and send 0 1 503. With every pair spent, behind start 2 2, start 3 3, end 2 and move 3 4, come sends of 500: 0 0, 4 0, 2 0, 3 0, 0 2 and
+// 0 1, and once more 0 1 where the desk is full.
 fn main() {
     let connected = run(
         Broker::fresh(),
@@ -69,4 +94,14 @@ fn main() {
     );
     let transit = broker.transit;
     tell_sent(transit.sent[PAIR]);
+    let crowd = run(connected, b"\x01\x02\x02\x01\x03\x03\x0B\x02\x06\x03\x04");
+    run(
+        all_sent(crowd),
+        b"\x04\x00\x00\xF4\x01\x00\x00\x04\x04\x00\xF4\x01\x00\x00\x04\x02\x00\xF4\x01\x00\x00\x04\x03\x00\xF4\x01\x00\x00",
+    );
+    run(
+        all_sent(crowd),
+        b"\x04\x00\x02\xF4\x01\x00\x00\x04\x00\x01\xF4\x01\x00\x00",
+    );
+    run(all_sent(full(connected)), b"\x04\x00\x01\xF4\x01\x00\x00");
 }

@@ -2,8 +2,8 @@
 //! two of its checks that can apply to one record do so here, and the lower is
 //! given. A few desks are brought about in which every check applies to some
 //! record, and then all is tried that they refuse, and some of it cut short. No
-//! log sends 4,294,967,295 messages: for 28 the states are handed in, to this
-//! engine alone.
+//! log sends 4,294,967,295 messages: for 28 the states are handed in here to this
+//! engine, and to the proved step by the program `test_spent`.
 
 mod apart;
 

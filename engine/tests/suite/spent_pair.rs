@@ -6,7 +6,7 @@ use crate::refusals::spent;
 use crate::refused_records::CROWD;
 use crate::text::{answers_of, desk_after, log_of, JOINED};
 use engine::refusal::{number_of, values_of};
-use engine::{is_sound, step, Desk, Outcome, Rank, Refusal, Snapshot};
+use engine::{is_sound, step, Answer, Desk, Outcome, Rank, Refusal, Snapshot};
 
 /// Ranks 0 and 1 joined, and 0 has sent so many messages to 1.
 fn joined_after(sent: u32) -> Snapshot {
@@ -126,24 +126,43 @@ fn a_full_desk_gets_24_before_28() {
     assert_eq!(number_in(&state, "send 0 1 1"), 28);
 }
 
-/// What the program of `crates/test_spent` prints: the number and the values of each
-/// step, and the count sent. It sets the count after four steps.
+/// The lines of some answers: number and values.
+fn lines(answers: &[Answer]) -> String {
+    let line = |answer| {
+        let [v1, v2, v3] = values_of(answer);
+        format!("{} {v1} {v2} {v3}\n", number_of(answer))
+    };
+    answers.iter().map(line).collect()
+}
+
+/// What the program of `crates/test_spent` prints: the number and the values of
+/// each step, and the count sent. It sets the count after four steps; then it
+/// hands in a crowd, and a full desk, in which every pair is spent.
 #[test]
 fn the_program_spent_is_answered_alike() {
     let first = "start 0 0, start 1 1, call 0 1, route 0 1";
     let then = "send 0 1 500, send 0 1 501, send 1 0 502, take 1 0, send 0 1 503";
     let mut desk = Desk::fresh();
-    let mut answers = answers_of(&mut desk, &log_of(first));
-    let mut state = desk.snapshot();
+    let mut printed = lines(&answers_of(&mut desk, &log_of(first)));
+    let connected = desk.snapshot();
+    let mut state = connected.clone();
     state.sent[0][1] = 4_294_967_294;
     let mut desk = Desk::from_snapshot(&state).expect("the state is sound");
-    answers.extend(answers_of(&mut desk, &log_of(then)));
-    let mut printed = String::new();
-    for answer in answers {
-        let [v1, v2, v3] = values_of(&answer);
-        printed += &format!("{} {v1} {v2} {v3}\n", number_of(&answer));
-    }
+    printed += &lines(&answers_of(&mut desk, &log_of(then)));
     printed += &format!("{} sent\n", desk.mail().sent(Rank(0), Rank(1)));
+
+    let mut desk = Desk::from_snapshot(&connected).expect("the state is sound");
+    let crowd = "start 2 2, start 3 3, end 2, move 3 4";
+    printed += &lines(&answers_of(&mut desk, &log_of(crowd)));
+    let sends =
+        "send 0 0 500, send 4 0 500, send 2 0 500, send 3 0 500, send 0 2 500, send 0 1 500";
+    let full = vec!["send 0 1 500"; 1_024].join(", ");
+    for (before, then) in [(crowd, sends), (&full, "send 0 1 500")] {
+        let state = spent(&format!("{first}, {before}"));
+        let mut desk = Desk::from_snapshot(&state).expect("the state is sound");
+        printed += &lines(&answers_of(&mut desk, &log_of(then)));
+    }
+
     let stored = concat!(env!("CARGO_MANIFEST_DIR"), "/../crates/test_spent/stdout");
     assert_eq!(printed, std::fs::read_to_string(stored).unwrap());
 }
