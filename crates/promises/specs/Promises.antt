@@ -101,8 +101,10 @@ use Rattle.record.specs.declared.Decoded.the-variants.{Whole, Unknown}
 use Rattle.record.specs.declared.Record.{Record}
 use Rattle.record.specs.declared.Record.the-variants.{Move, Look}
 use Rattle.transit.specs.Message.{ranks, placeOrder}
-use Rattle.transit.specs.Unread.{limit, mostSent}
+use Rattle.transit.specs.Laws.Operations.{full-stays}
+use Rattle.transit.specs.Unread.{Unread, limit, mostSent, appended}
 use Rattle.transit.specs.declared.Message.{Message}
+use Rattle.transit.specs.declared.Place.{Place}
 use Rattle.transit.specs.declared.Rank.{Rank}
 use Rattle.transit.specs.declared.Selection.the-variants.{Between}
 use Rattle.broker.specs.declared.process.Status.the-variants.{Running}
@@ -136,8 +138,9 @@ limits-of-a-made-up-pass = (refl, refl, refl)
 
 -- Demand 2: every step gives exactly the answer, the next position and the next state of paper 01.
 
--- "1: the lent state is unsound"
+-- A step of any state, at any position of any log; `named` is the rank that a look names.
 module _ (named : Rank) (s : State) (log : List ℕ) (at : ℕ) where
+  -- "1: the lent state is unsound"
   pub unsound-is-1 : sound s ≡ false → step named s log at ≡ record { answer = Refused Unsound; next = at; state = s }
   unfolding step
   unsound-is-1 h = rw h
@@ -283,6 +286,11 @@ module _ (xs : List Reading) where
 
   pub stays-sound-over-a-list : sound (after fresh xs) ≡ true
   stays-sound-over-a-list = sound-after xs fresh fresh-sound
+
+-- "At most 1,024 are unread in the whole desk.": the lower part takes no message more.
+pub full-desk-takes-no-message : (u : Unread) (a b : Rank) (p : Place) (v : ℕ) → 1024 ≤ u .count →
+    appended u a b p v ≡ record { full = true; unread = u }
+full-desk-takes-no-message = full-stays
 
 -- Paper 02, change 2: "A move to the rank's present host is accepted and draws a number like any other."
 pub restart : (s : State) (r : Rank) (v : Vmid) → sound s ≡ true → r .0 < 16 → status s r ≡ Running v →
