@@ -1,5 +1,3 @@
--- What a turn and a course of turns come to, and laws of these.
-pub mod Buffer
-pub mod Course
+-- What a turn comes to, and laws of it.
 pub mod Laws
 pub mod Turn

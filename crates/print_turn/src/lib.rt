@@ -6,15 +6,13 @@ ghost use lib.ListN.{length};
 ghost use Rattle.desk.specs.Desk.{deskOf, Desk};
 ghost use Rattle.print_last.specs.Last.{endingRoom};
 ghost use Rattle.print_turn.specs.Turn.{nextOf, bufferRoom, Turns};
-use crate::buffer::keep_rest;
+use print_buffer::keep_rest;
 use print_ending::run_end;
 use print_piece::Stop;
 use print_piece::run_piece;
 use roster::Roster;
 use transit::Contents;
 use transit::Slots;
-
-pub mod buffer;
 
 // What a program does when it has written what the page shows.
 pub enum Next {

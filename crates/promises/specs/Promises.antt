@@ -60,9 +60,9 @@ use Rattle.print_run.specs.Printed.{printed, textOf}
 use Rattle.print_run.specs.Run.{Answered, Came, Naming, runLog}
 use Rattle.print_run.specs.Shown.{shown}
 use Rattle.print_run.specs.Wholes.{isWhole}
-use Rattle.print_turn.specs.Course.{Course, RunSoFar, ShortOfEnd}
-use Rattle.print_turn.specs.Laws.Course.{course-ends, end-was-read}
-use Rattle.print_turn.specs.Laws.Runs.{turn-runs, course-runs}
+use Rattle.print_course.specs.Course.{Course, RunSoFar, ShortOfEnd}
+use Rattle.print_course.specs.Laws.Course.{course-ends, end-was-read}
+use Rattle.print_course.specs.Laws.Runs.{turn-runs, course-runs}
 use Rattle.print_turn.specs.Turn.{bufferRoom, farthest, longest, Shows}
 use Rattle.print_turn.specs.declared.Next.the-variants.{Again, Read, End, TooLong}
 use Rattle.print_turn.specs.declared.Turned.{Turned}

@@ -7,7 +7,7 @@ use Prim.Native.Nat.{ℕ, _+_, _≤_, _<_}
 use lib.ListN.{length, take}
 use Rattle.broker.specs.State.{State, fresh}
 use Rattle.print_run.specs.Printed.{Prints}
-use Rattle.print_turn.specs.Course.{Course, RunSoFar}
+use Rattle.print_course.specs.Course.{Course, RunSoFar}
 use Rattle.print_turn.specs.Turn.{bufferRoom, farthest, longest, MayFollow}
 use Rattle.replay_stage.specs.declared.Ending.the-variants.{Over, Unwritten, Unread, TooLong}
 use Rattle.replay_stage.specs.declared.Stage.{Stage}

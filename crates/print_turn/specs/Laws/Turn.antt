@@ -18,7 +18,7 @@ use Rattle.broker.specs.State.{State}
 use Rattle.record.specs.declared.Decoded.{Decoded}
 use Rattle.record.specs.declared.Decoded.the-variants.{Whole, Unknown, Cut}
 use Rattle.desk.specs.Look.{nameFor}
-use Rattle.print_turn.specs.Buffer.{Kept}
+use Rattle.print_buffer.specs.Buffer.{Kept}
 use Rattle.print_last.specs.Last.{endingRoom}
 use Rattle.print_run.specs.Laws.Pieces.{piece-first, left-over, unknown-ends}
 use Rattle.print_run.specs.Laws.Text.{text-behind}

@@ -8,10 +8,10 @@ use lib.IntN.{ℤ}
 use lib.ListN.{length, take, drop, length-drop, take-append-drop}
 use lib.Seq.{length-take-le, take-take}
 use Rattle.broker.specs.State.{State, fresh}
-use Rattle.print_turn.specs.Course.Course.{begun, reads, turns}
-use Rattle.print_turn.specs.Course.{atEnd}
-use Rattle.print_turn.specs.Laws.Course.{course-sound, course-ends}
-use Rattle.print_turn.specs.Laws.Runs.{course-runs, turn-runs}
+use Rattle.print_course.specs.Course.Course.{begun, reads, turns}
+use Rattle.print_course.specs.Course.{atEnd}
+use Rattle.print_course.specs.Laws.Course.{course-sound, course-ends}
+use Rattle.print_course.specs.Laws.Runs.{course-runs, turn-runs}
 use Rattle.print_turn.specs.Turn.{bufferRoom, farthest, Shows, Because, Turns}
 use Rattle.print_turn.specs.declared.Next.{Next}
 use Rattle.print_turn.specs.declared.Next.the-variants.{Again, Read, End, TooLong}

@@ -14,10 +14,10 @@ use Rattle.ordering.specs.Laws.Runs.{fresh-sound}
 use Rattle.print_piece.specs.Laws.Ran.{ran-none, ran-on}
 use Rattle.print_piece.specs.Ran.{Ran}
 use Rattle.print_run.specs.Laws.Wholes.{run-within}
-use Rattle.print_turn.specs.Course.{Course, RunSoFar}
-use Rattle.print_turn.specs.Course.Course.{begun, reads, turns}
+use Rattle.print_course.specs.Course.{Course, RunSoFar}
+use Rattle.print_course.specs.Course.Course.{begun, reads, turns}
 use Rattle.print_turn.specs.Turn.{Shows}
 use Rattle.print_turn.specs.declared.Turned.{Turned}
 
 module _ {read : List ℕ} {s : State} {base : ℕ} {held : List ℕ} (x : RunSoFar read s base held) where
   -- What is run stands in what was read.

@@ -6,7 +6,7 @@ use native.Mathlib.Nat.{zero-add}
 use native.Mathlib.Omega.{arith}
 use lib.ListN.{length, take, drop, getD, set}
 use lib.Seq.{paste-suc, length-paste, take-at, drop-at, slice, length-slice, length-take-le, getD-take, getD-drop, take-all}
-use Rattle.print_turn.specs.Buffer.{Kept}
+use Rattle.print_buffer.specs.Buffer.{Kept}
 
 -- the buffer with so many bytes moved of what stands from a position on
 abbrev pub moving : List ℕ → ℕ → ℕ → ℕ → List ℕ

@@ -14,14 +14,14 @@ use Rattle.ordering.specs.Laws.Runs.{fresh-sound}
 use Rattle.print_run.specs.Laws.Pieces.{printed-is-left}
 use Rattle.print_run.specs.Laws.Text.{prints}
 use Rattle.print_run.specs.Printed.{printed, Prints}
-use Rattle.print_turn.specs.Course.{Course, ShortOfEnd}
-use Rattle.print_turn.specs.Course.Course.{begun, reads, turns}
+use Rattle.print_course.specs.Course.{Course, ShortOfEnd}
+use Rattle.print_course.specs.Course.Course.{begun, reads, turns}
 use Rattle.print_turn.specs.Laws.Turn.{leftBehind, shows-prints}
 use Rattle.print_turn.specs.Turn.{MayFollow, Shows, Over}
 use Rattle.print_run.specs.Wholes.{left}
 use Rattle.print_turn.specs.declared.Next.{Next}
 use Rattle.print_turn.specs.declared.Next.the-variants.{Again, Read, End, TooLong}
 use Rattle.print_turn.specs.declared.Turned.{Turned}
 
 -- The state stays sound.
 pub course-sound :

@@ -1,4 +1,4 @@
--- `print_turn::buffer::keep_rest` meets its contract. The loop's invariant: the bytes so far are moved, and the others are as they were.
+-- `print_buffer::keep_rest` meets its contract. The loop's invariant: the bytes so far are moved, and the others are as they were.
 -- Assumes nothing.
 use mathlib.Core.Path.{_≡_, refl}
 use Prim.Native.Nat.{_-_, _≤_}
@@ -6,9 +6,9 @@ use native.Mathlib.Numerals.{add-one}
 use native.Mathlib.Omega.{arith}
 use borrow.Author.Needs.{needs}
 use lib.ListN.{length, length-set}
-use Rattle.print_turn.specs.Laws.Buffer.{moving, one-moved, all-moved}
-use Rattle.print_turn.proofs.buffer.keep_rest.Statement.{statement}
-use Rattle.print_turn.proofs.buffer.keep_rest.Tie as tie
+use Rattle.print_buffer.specs.Laws.Buffer.{moving, one-moved, all-moved}
+use Rattle.print_buffer.proofs.keep_rest.Statement.{statement}
+use Rattle.print_buffer.proofs.keep_rest.Tie as tie
 
 abbrev Inv-loop : tie.InvT-loop
 Inv-loop buffer₀ from held kept₀ buffer kept =
