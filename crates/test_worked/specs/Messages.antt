@@ -3,9 +3,10 @@
 use mathlib.Core.Path.{_≡_, refl}
 use mathlib.Core.Bool.{true, false}
 use mathlib.Core.List.{[], _∷_}
-use Rattle.protocol.specs.Laws.Opened.{openedMessages, openedSound}
+use Rattle.protocol.specs.Laws.Opened.{openedChecks, openedMessages, openedSound}
 use Rattle.protocol.specs.Sound.{sound}
 use Rattle.broker.specs.State.{State}
+use Rattle.test_worked.specs.Filled.{filled}
 use Rattle.test_worked.specs.Unsound.{messages-unsound}
 use Rattle.test_worked.specs.Whole.{everything}
 use Rattle.test_worked.specs.Words.{
@@ -139,9 +140,13 @@ message-to-itself-before-another-is-unsound = messages-unsound message-to-itself
 abbrev pub messages-up-to-the-limit : State
 messages-up-to-the-limit = changed everything (messages 1015 0 2 3 59 ∷ [])
 
+abbrev pub messages-up-to-the-limit-before : State
+messages-up-to-the-limit-before = changed everything []
+
 pub messages-up-to-the-limit-is-sound : sound messages-up-to-the-limit ≡ true
-unfolding openedSound
-messages-up-to-the-limit-is-sound = refl
+unfolding openedChecks openedSound
+messages-up-to-the-limit-is-sound =
+    filled 0 2 59 1015 messages-up-to-the-limit-before refl refl refl (refl, refl, refl, refl)
 
 -- "At most 1,024 messages stand."
 abbrev pub messages-past-the-limit : State
@@ -158,9 +163,15 @@ messages-of-one-pair-up-to-the-limit =
     (fresh ∷ drawn 0 1 ∷ drawn 1 1 ∷ running 0 0 1 ∷ running 1 1 1 ∷ tables 0 0 1 ∷ tables 1 1 1 ∷ plain 0 1 ∷ plain 1 0 ∷
     messages 1024 0 1 3 59 ∷ [])
 
+abbrev pub messages-of-one-pair-up-to-the-limit-before : State
+messages-of-one-pair-up-to-the-limit-before =
+    changed everything
+    (fresh ∷ drawn 0 1 ∷ drawn 1 1 ∷ running 0 0 1 ∷ running 1 1 1 ∷ tables 0 0 1 ∷ tables 1 1 1 ∷ plain 0 1 ∷ plain 1 0 ∷ [])
+
 pub messages-of-one-pair-up-to-the-limit-is-sound : sound messages-of-one-pair-up-to-the-limit ≡ true
-unfolding openedSound
-messages-of-one-pair-up-to-the-limit-is-sound = refl
+unfolding openedChecks openedSound
+messages-of-one-pair-up-to-the-limit-is-sound =
+    filled 0 1 59 1024 messages-of-one-pair-up-to-the-limit-before refl refl refl (refl, refl, refl, refl)
 
 -- "At most 1,024 messages stand."
 abbrev pub messages-of-one-pair-past-the-limit : State

@@ -1,6 +1,7 @@
 //! The theorems of `crates/test_worked`: for each section of the list a file, and in
 //! it for each state a definition and a theorem, computed from the definition
-//! of soundness. An unsound state is computed in the clauses of its section.
+//! of soundness. An unsound state is computed in the clauses of its section; a
+//! full desk that is sound is so by a law, from the state before its messages.
 //! A section under three marks, `###`, has no theorems.
 
 use crate::list::{Listed, WORDS};
@@ -32,7 +33,7 @@ fn theorems(group: &[Listed], first: &Listed) -> String {
     for listed in group {
         text.push_str(&format!("\n-- {}\n", listed.sentence));
         text.push_str(&definition(listed, first));
-        text.push_str(&theorem(listed));
+        text.push_str(&theorem(listed, first));
     }
     text
 }
@@ -41,11 +42,15 @@ fn imports(group: &[Listed], first: &Listed) -> Vec<String> {
     let section = &group[0].section;
     let unsound = group.iter().any(|listed| !listed.sound);
     let starts = group[0].name == first.name;
+    let filled = group.iter().any(|listed| filling(listed).is_some());
     let mut opened = vec!["openedSound".to_string()];
     let mut values = vec!["true"];
     if unsound {
         opened.insert(0, format!("opened{section}"));
         values.push("false");
+    }
+    if filled {
+        opened.insert(0, "openedChecks".to_string());
     }
     let mut imports = vec![
         "mathlib.Core.Path.{_≡_, refl}".to_string(),
@@ -61,6 +66,9 @@ fn imports(group: &[Listed], first: &Listed) -> Vec<String> {
         imports.push("Rattle.broker.specs.State as Desk".to_string());
     }
     imports.push("Rattle.broker.specs.State.{State}".to_string());
+    if filled {
+        imports.push("Rattle.test_worked.specs.Filled.{filled}".to_string());
+    }
     if unsound {
         let law = section.to_lowercase();
         imports.push(format!(
@@ -101,7 +109,10 @@ fn definition(listed: &Listed, first: &Listed) -> String {
     } else {
         &first.name
     };
-    let list = format!("({} ∷ [])", listed.changes.join(" ∷ "));
+    let list = match &listed.changes[..] {
+        [] => "[]".to_string(),
+        changes => format!("({} ∷ [])", changes.join(" ∷ ")),
+    };
     let head = format!("abbrev pub {name} : State\n{name} =");
     let whole = format!("{name} = changed {start} {list}");
     if whole.chars().count() <= WIDTH {
@@ -123,20 +134,45 @@ fn definition(listed: &Listed, first: &Listed) -> String {
     text
 }
 
-fn theorem(listed: &Listed) -> String {
+/// The messages that the last change of a sound state puts on a plain line: from
+/// whom and to whom, the value, and how many.
+fn filling(listed: &Listed) -> Option<String> {
+    let words: Vec<&str> = listed.changes.last()?.split(' ').collect();
+    match words[..] {
+        ["messages", count, sender, receiver, "3", value] if listed.sound => {
+            Some(format!("{sender} {receiver} {value} {count}"))
+        }
+        _ => None,
+    }
+}
+
+fn theorem(listed: &Listed, first: &Listed) -> String {
     let (name, verdict) = (&listed.name, listed.verdict());
     let section = &listed.section;
-    let (opened, proof) = if listed.sound {
-        ("openedSound".to_string(), "refl".to_string())
+    let mut text = "\n".to_string();
+    let (opened, proof) = if let Some(messages) = filling(listed) {
+        let mut before = listed.clone();
+        before.name = format!("{name}-before");
+        before.changes.pop();
+        text = format!("\n{}\n", definition(&before, first));
+        (
+            "openedChecks openedSound".to_string(),
+            format!(
+                "\n    filled {messages} {} refl refl refl (refl, refl, refl, refl)",
+                before.name
+            ),
+        )
+    } else if listed.sound {
+        ("openedSound".to_string(), " refl".to_string())
     } else {
         let law = section.to_lowercase();
         (
             format!("opened{section}"),
-            format!("{law}-unsound {name} refl"),
+            format!(" {law}-unsound {name} refl"),
         )
     };
-    format!(
-        "\npub {name}-is-{verdict} : sound {name} ≡ {}\nunfolding {opened}\n{name}-is-{verdict} = {proof}\n",
+    text + &format!(
+        "pub {name}-is-{verdict} : sound {name} ≡ {}\nunfolding {opened}\n{name}-is-{verdict} ={proof}\n",
         listed.sound
     )
 }
