@@ -1,17 +1,17 @@
 // The state that is being built, with one of its parts changed.
 ghost use Prim.Native.Nat.{_<_};
 ghost use Rattle.transit.specs.Message.{ranks, cells};
-use crate::number::numbers_in;
 use crate::part::link_after;
 use crate::part::message;
 use crate::part::process_after;
 use crate::part::running_number;
 use crate::part::vmid;
-use crate::word::Word;
-use crate::word::word_of;
 use broker::process::Vmid;
 use broker::state::Broker;
 use libc::STDOUT_FILENO;
+use test_line::number::numbers_in;
+use test_line::word::Word;
+use test_line::word::word_of;
 use transit::CELLS;
 use transit::Message;
 use transit::RANKS;

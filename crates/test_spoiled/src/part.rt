@@ -1,5 +1,4 @@
 // A part of a state as a line of the list changes it, by the line's word and its numbers.
-use crate::word::Word;
 use broker::link::Backlog;
 use broker::link::Connection;
 use broker::link::Link;
@@ -7,6 +6,7 @@ use broker::process::Process;
 use broker::process::Request;
 use broker::process::Status;
 use broker::process::Vmid;
+use test_line::word::Word;
 use transit::Message;
 use transit::Place;
 use transit::Rank;

@@ -1,9 +1,9 @@
--- `test_spoiled::number::numbers_in` is safe and ends. The loop runs once for each byte. Assumes nothing.
+-- `test_line::number::numbers_in` is safe and ends. The loop runs once for each byte. Assumes nothing.
 use Prim.Native.Nat.{_≤_, _-_}
 use borrow.Author.Needs.{needs}
 use lib.ListN.{length}
-use Rattle.test_spoiled.proofs.number.numbers_in.Statement.{statement}
-use Rattle.test_spoiled.proofs.number.numbers_in.Tie as tie
+use Rattle.test_line.proofs.number.numbers_in.Statement.{statement}
+use Rattle.test_line.proofs.number.numbers_in.Tie as tie
 
 abbrev Inv-loop : tie.InvT-loop
 Inv-loop text reading₀ i₀ reading i = i ≤ length text

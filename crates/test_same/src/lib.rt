@@ -157,6 +157,7 @@ fn same_transit(a: Transit, b: Transit) -> bool {
     a.count == b.count && same_messages(a, b) && same_sent(a, b)
 }
 
+// Whether all parts of two states are the same.
 pub fn same(a: Broker, b: Broker) -> bool {
     let before = a.transit;
     let after = b.transit;

@@ -71,6 +71,7 @@ fn number_of(text: &[u8]) -> usize {
     WORDS
 }
 
+// The word that a line starts with.
 pub fn word_of(text: &[u8]) -> Word {
     if text.len() == 0 {
         return Word::Remark;

@@ -1,9 +1,9 @@
--- `test_spoiled::same::same_sent` is safe and ends. The loop runs at most 256 times.
+-- `test_same::same_sent` is safe and ends. The loop runs at most 256 times.
 -- Assumes nothing.
 use Prim.Native.Nat.{_≤_, _-_}
 use borrow.Author.Needs.{needs}
-use Rattle.test_spoiled.proofs.same.same_sent.Statement.{statement}
-use Rattle.test_spoiled.proofs.same.same_sent.Tie as tie
+use Rattle.test_same.proofs.same_sent.Statement.{statement}
+use Rattle.test_same.proofs.same_sent.Tie as tie
 
 abbrev Inv-loop : tie.InvT-loop
 Inv-loop a b i₀ i = i ≤ 256

@@ -1,8 +1,8 @@
--- `test_spoiled::word::number_of` is safe and ends. The loop runs at most eighteen times. Assumes nothing.
+-- `test_line::word::number_of` is safe and ends. The loop runs at most eighteen times. Assumes nothing.
 use Prim.Native.Nat.{_≤_, _-_}
 use borrow.Author.Needs.{needs}
-use Rattle.test_spoiled.proofs.word.number_of.Statement.{statement}
-use Rattle.test_spoiled.proofs.word.number_of.Tie as tie
+use Rattle.test_line.proofs.word.number_of.Statement.{statement}
+use Rattle.test_line.proofs.word.number_of.Tie as tie
 
 abbrev Inv-loop : tie.InvT-loop
 Inv-loop text number₀ number = number ≤ 18

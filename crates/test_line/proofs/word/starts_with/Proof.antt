@@ -1,8 +1,8 @@
--- `test_spoiled::word::starts_with` is safe and ends. The loop runs at most nine times. Assumes nothing.
+-- `test_line::word::starts_with` is safe and ends. The loop runs at most nine times. Assumes nothing.
 use Prim.Native.Nat.{_≤_, _-_}
 use borrow.Author.Needs.{needs}
-use Rattle.test_spoiled.proofs.word.starts_with.Statement.{statement}
-use Rattle.test_spoiled.proofs.word.starts_with.Tie as tie
+use Rattle.test_line.proofs.word.starts_with.Statement.{statement}
+use Rattle.test_line.proofs.word.starts_with.Tie as tie
 
 abbrev Inv-loop : tie.InvT-loop
 Inv-loop text number i₀ i = i ≤ 9
