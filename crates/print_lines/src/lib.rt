@@ -7,12 +7,12 @@ ghost use Rattle.print_lines.specs.Lines.{recordLine, recordRoom, pairLi
 ghost use Rattle.print_page.specs.Put.{Put};
 use answer::Answer;
 use answer::Refusal;
+use print_number::put_decimal;
+use print_number::put_four_numbers;
+use print_number::put_two_numbers;
 use print_page::put_byte;
-use print_page::put_decimal;
 use print_page::put_four_bytes;
-use print_page::put_four_numbers;
 use print_page::put_hex;
-use print_page::put_two_numbers;
 use transit::Value;
 
 // Position, kind, number, v1, v2, v3. A run calls it at one place, so that it is compiled into its loop.

@@ -1,11 +1,11 @@
--- `print_page::put_number` meets its contract: two puts in a row, of which the second is one byte where there is one digit. Assumes
+-- `print_number::put_number` meets its contract: two puts in a row, of which the second is one byte where there is one digit. Assumes
 -- nothing.
 use native.Mathlib.Omega.{arith}
 use borrow.Author.Needs.{needs}
 use Rattle.print_page.specs.Laws.Put.{_then_, at-most}
 use Rattle.print_page.specs.Laws.Text.{decimal-one}
-use Rattle.print_page.proofs.put_number.Statement.{statement}
-use Rattle.print_page.proofs.put_number.Tie as tie
+use Rattle.print_number.proofs.put_number.Statement.{statement}
+use Rattle.print_number.proofs.put_number.Tie as tie
 
 returns : tie.Need-returns
 returns c =

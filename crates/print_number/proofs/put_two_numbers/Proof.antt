@@ -1,9 +1,9 @@
--- `print_page::put_two_numbers` meets its contract: two puts in a row. Assumes nothing.
+-- `print_number::put_two_numbers` meets its contract: two puts in a row. Assumes nothing.
 use borrow.Author.Needs.{needs}
 use Rattle.print_page.specs.Laws.Put.{_then_}
 use Rattle.print_page.specs.Laws.Text.{numbers-two}
-use Rattle.print_page.proofs.put_two_numbers.Statement.{statement}
-use Rattle.print_page.proofs.put_two_numbers.Tie as tie
+use Rattle.print_number.proofs.put_two_numbers.Statement.{statement}
+use Rattle.print_number.proofs.put_two_numbers.Tie as tie
 
 returns : tie.Need-returns
 returns c =
