@@ -1,13 +1,11 @@
 // Builds the states that standard input lists and hands each to a step. For each it prints a line: its name, and whether the step finds it
 // sound. The head of the list, the file `stdin`, explains its lines.
-mod change;
-mod part;
 mod tell;
 
 use broker::state::Broker;
-use change::changed;
 use libc::STDIN_FILENO;
 use tell::tell;
+use test_change::changed;
 use test_line::word::Word;
 use test_line::word::word_of;
 

@@ -1,8 +1,8 @@
--- `test_spoiled::change::with_messages` is safe and ends. The loop runs once for each message. Assumes nothing.
+-- `test_change::with_messages` is safe and ends. The loop runs once for each message. Assumes nothing.
 use Prim.Native.Nat.{_≤_, _-_}
 use borrow.Author.Needs.{needs}
-use Rattle.test_spoiled.proofs.change.with_messages.Statement.{statement}
-use Rattle.test_spoiled.proofs.change.with_messages.Tie as tie
+use Rattle.test_change.proofs.with_messages.Statement.{statement}
+use Rattle.test_change.proofs.with_messages.Tie as tie
 
 abbrev Inv-loop : tie.InvT-loop
 Inv-loop broker count a b at value transit₀ counter₀ transit counter = counter ≤ count

@@ -1,9 +1,9 @@
--- `test_spoiled::change::with_entries` is safe and ends. The loop runs once for each rank. Assumes nothing.
+-- `test_change::with_entries` is safe and ends. The loop runs once for each rank. Assumes nothing.
 use Prim.Native.Nat.{_≤_, _-_}
 use borrow.Author.Needs.{needs}
 use Rattle.transit.specs.Message.{ranks}
-use Rattle.test_spoiled.proofs.change.with_entries.Statement.{statement}
-use Rattle.test_spoiled.proofs.change.with_entries.Tie as tie
+use Rattle.test_change.proofs.with_entries.Statement.{statement}
+use Rattle.test_change.proofs.with_entries.Tie as tie
 
 abbrev Inv-loop : tie.InvT-loop
 Inv-loop b v next₀ a₀ next a = a ≤ ranks

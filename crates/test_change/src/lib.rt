@@ -1,14 +1,16 @@
 // The state that is being built, with one of its parts changed.
+mod part;
+
 ghost use Prim.Native.Nat.{_<_};
 ghost use Rattle.transit.specs.Message.{ranks, cells};
-use crate::part::link_after;
-use crate::part::message;
-use crate::part::process_after;
-use crate::part::running_number;
-use crate::part::vmid;
 use broker::process::Vmid;
 use broker::state::Broker;
 use libc::STDOUT_FILENO;
+use part::link_after;
+use part::message;
+use part::process_after;
+use part::running_number;
+use part::vmid;
 use test_line::number::numbers_in;
 use test_line::word::Word;
 use test_line::word::word_of;
