@@ -7,7 +7,7 @@ ghost use Rattle.print_lines.specs.Lines.{recordLine, recordRoom, pairLi
 ghost use Rattle.print_page.specs.Put.{Put};
 use answer::Answer;
 use answer::Refusal;
-use print_number::put_decimal;
+use print_digits::put_decimal;
 use print_number::put_four_numbers;
 use print_number::put_two_numbers;
 use print_page::put_byte;

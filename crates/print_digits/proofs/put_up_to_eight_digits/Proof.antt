@@ -1,11 +1,11 @@
--- `print_number::put_up_to_eight_digits` meets its contract: two puts in a row where there are digits before the last ones. Assumes
+-- `print_digits::put_up_to_eight_digits` meets its contract: two puts in a row where there are digits before the last ones. Assumes
 -- nothing.
 use native.Mathlib.Omega.{arith}
 use borrow.Author.Needs.{needs}
 use Rattle.print_page.specs.Laws.Put.{_then_}
 use Rattle.print_page.specs.Laws.Text.{decimal-four}
-use Rattle.print_number.proofs.put_up_to_eight_digits.Statement.{statement}
-use Rattle.print_number.proofs.put_up_to_eight_digits.Tie as tie
+use Rattle.print_digits.proofs.put_up_to_eight_digits.Statement.{statement}
+use Rattle.print_digits.proofs.put_up_to_eight_digits.Tie as tie
 
 returns-2 : tie.Need-returns-2
 returns-2 c =

@@ -1,8 +1,8 @@
--- `print_number::put_four_digits` meets its contract: two puts in a row. Assumes nothing.
+-- `print_digits::put_four_digits` meets its contract: two puts in a row. Assumes nothing.
 use borrow.Author.Needs.{needs}
 use Rattle.print_page.specs.Laws.Put.{_then_}
-use Rattle.print_number.proofs.put_four_digits.Statement.{statement}
-use Rattle.print_number.proofs.put_four_digits.Tie as tie
+use Rattle.print_digits.proofs.put_four_digits.Statement.{statement}
+use Rattle.print_digits.proofs.put_four_digits.Tie as tie
 
 returns : tie.Need-returns
 returns c =

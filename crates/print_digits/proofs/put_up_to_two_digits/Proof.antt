@@ -1,10 +1,10 @@
--- `print_number::put_up_to_two_digits` meets its contract: one byte where there is one digit. Assumes nothing.
+-- `print_digits::put_up_to_two_digits` meets its contract: one byte where there is one digit. Assumes nothing.
 use native.Mathlib.Omega.{arith}
 use borrow.Author.Needs.{needs}
 use Rattle.print_page.specs.Laws.Put.{at-most}
 use Rattle.print_page.specs.Laws.Text.{decimal-one, decimal-pair}
-use Rattle.print_number.proofs.put_up_to_two_digits.Statement.{statement}
-use Rattle.print_number.proofs.put_up_to_two_digits.Tie as tie
+use Rattle.print_digits.proofs.put_up_to_two_digits.Statement.{statement}
+use Rattle.print_digits.proofs.put_up_to_two_digits.Tie as tie
 
 returns : tie.Need-returns
 returns c =

@@ -1,10 +1,10 @@
--- `print_number::put_two_digits` meets its contract: the low byte of both digits is the first, the high byte the second. Assumes nothing.
+-- `print_digits::put_two_digits` meets its contract: the low byte of both digits is the first, the high byte the second. Assumes nothing.
 use native.Mathlib.Omega.{arith}
 use borrow.Author.Needs.{needs}
 use lib.ListN.{length-set}
 use Rattle.print_page.specs.Laws.Put.{two-bytes}
-use Rattle.print_number.proofs.put_two_digits.Statement.{statement}
-use Rattle.print_number.proofs.put_two_digits.Tie as tie
+use Rattle.print_digits.proofs.put_two_digits.Statement.{statement}
+use Rattle.print_digits.proofs.put_two_digits.Tie as tie
 
 pub put-two-digits-spec : {M : Type 1} → statement M
 put-two-digits-spec =
