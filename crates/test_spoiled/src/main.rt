@@ -1,13 +1,18 @@
 // Builds the states that standard input lists and hands each to a step. For each it prints a line: its name, and whether the step finds it
 // sound. The head of the list, the file `stdin`, explains its lines.
+mod change;
+mod number;
+mod part;
+mod same;
 mod tell;
+mod word;
 
 use broker::state::Broker;
+use change::changed;
 use libc::STDIN_FILENO;
 use tell::tell;
-use test_change::changed;
-use test_line::word::Word;
-use test_line::word::word_of;
+use word::Word;
+use word::word_of;
 
 // Whether a line names the state that the lines before it make.
 fn is_name(line: &[u8]) -> bool {

@@ -1,8 +1,8 @@
 // What a step finds of a state.
+use crate::same::same;
 use broker::state::Broker;
 use libc::STDOUT_FILENO;
 use steps::step;
-use test_same::same;
 
 // The state is handed to a step at the end of an empty log, where a sound state is answered with 3 and an unsound one with 1. Either way
 // the position stays, and the very state comes back.
