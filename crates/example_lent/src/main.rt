@@ -1,7 +1,7 @@
 // The panel maker's program with a step of a lent state: the state stands in a variable, which is lent to the step.
 ghost use Rattle.answer.specs.Answer.{NeverEighteen};
 ghost use Rattle.broker.specs.State.{view};
-ghost use Rattle.protocol.specs.Step.{Stepped};
+ghost use Rattle.protocol.specs.Step.{step};
 ghost use Rattle.steps.specs.Outcome.{outcome, RefusalKeeps};
 use broker::state::Broker;
 use libc::STDOUT_FILENO;
@@ -10,7 +10,7 @@ use steps_lent::step_lent;
 
 // The state is lent to the step, and then handed back.
 fn step_by_lending(mut broker: Broker, log: &[u8], at: usize) -> Outcome
-    ensures { λ o. ⌜ Stepped (view broker) (now (log .entry)) at (outcome o) ⌝ }
+    ensures { λ o. ⌜ outcome o ≡ step (view broker) (now (log .entry)) at ⌝ }
     ensures refused_unchanged { λ o. ⌜ RefusalKeeps (o .answer) broker (o .broker) ⌝ }
     ensures never_eighteen { λ o. ⌜ NeverEighteen (o .answer) ⌝ }
 {

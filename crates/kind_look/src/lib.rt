@@ -1,12 +1,13 @@
-// Look: its checks in the paper's order, and what it does where none applies. Paper 01, "The step log", kind 0C.
+// Look: its checks in the paper's order, and what it does where none applies. Paper 01, "The step log", kind 0C; paper 02, change 6.
 ghost use mathlib.Core.List.{List};
 ghost use mathlib.Core.Path.{_≡_};
 ghost use Prim.Native.Nat.{ℕ};
 ghost use Rattle.transit.specs.Mail.{Mail};
+ghost use Rattle.transit.specs.Unread.{senderIn};
+ghost use Rattle.protocol.specs.Messages.{look};
 ghost use Rattle.record.specs.declared.Record.{Record};
 ghost use Rattle.roster.specs.Roster.{Whole};
 ghost use Rattle.desk.specs.Desk.{deskOf, Desk, DeskDoes, Judges};
-ghost use Rattle.desk.specs.Look.{senderIn, lookOldest};
 ghost use Rattle.verdict.specs.Verdict.{verdictOf, passed, judged};
 ghost use Rattle.kind_look.specs.Tests.{lookTests};
 use answer::Refusal;
@@ -50,10 +51,10 @@ fn sender_in(found: Found) -> Rank
     }
 }
 
-// The rank named is the sender of the message that was sent first.
+// The rank named is the sender of the message that was sent first of all those unread by `r`.
 pub fn look(r: Rank, slots: &Slots, contents: &Contents) -> Values
     requires { ⌜ Mail (now slots) (now contents) ⌝ }
-    ensures { λ v. ⌜ ((roster : List ℕ) → Whole roster → DeskDoes (lookOldest r) (now (slots .entry))
+    ensures { λ v. ⌜ ((roster : List ℕ) → Whole roster → DeskDoes (look r) (now (slots .entry))
         (now (contents .entry)) roster v (now (slots .entry)) (now (contents .entry)) roster) ⌝ }
 {
     let found = first_to(r, slots, contents);

@@ -19,7 +19,7 @@ ghost use Rattle.print_run.specs.Printed.{linesOf};
 ghost use Rattle.print_run.specs.Run.{Answered};
 ghost use Rattle.print_run.specs.Wholes.{wholes};
 ghost use Rattle.protocol.specs.Sound.{sound};
-ghost use Rattle.protocol.specs.Step.{Stepped};
+ghost use Rattle.protocol.specs.Step.{step};
 ghost use Rattle.promises.specs.Entries.{ExactStep, EachAnswer, Makes, TurnOfARun};
 ghost use Rattle.record.specs.Record.{decode};
 ghost use Rattle.record.specs.declared.Decoded.the-variants.{Unknown, Cut};
@@ -72,7 +72,7 @@ pub fn step_of_a_state(broker: Broker, log: &[u8], at: usize) -> Outcome
 
 // The state is lent to the step, and then handed back.
 fn step_by_lending(mut broker: Broker, log: &[u8], at: usize) -> Outcome
-    ensures { λ o. ⌜ Stepped (view broker) (now (log .entry)) at (outcome o) ⌝ }
+    ensures { λ o. ⌜ outcome o ≡ step (view broker) (now (log .entry)) at ⌝ }
     ensures refused_unchanged { λ o. ⌜ RefusalKeeps (o .answer) broker (o .broker) ⌝ }
     ensures never_eighteen { λ o. ⌜ NeverEighteen (o .answer) ⌝ }
 {

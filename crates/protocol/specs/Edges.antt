@@ -46,7 +46,7 @@ pub record Edge : Type 0 where
   pub then : State → Bool
 
 abbrev pub holds : Edge → Bool
-holds e = plays (λ s log. step (rank 0) s log 0) (e .steps) (e .then) fresh
+holds e = plays (λ s log. step s log 0) (e .steps) (e .then) fresh
 
 -- nothing more than the answers
 abbrev pub answered : State → Bool

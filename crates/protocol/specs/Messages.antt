@@ -1,14 +1,14 @@
--- Send, take and look: what each does to the state and answers. Paper 01, "The step log", kinds 04, 05 and 0C; paper 02, change 4.
--- Assumes nothing.
+-- Send, take and look: what each does to the state and answers. Paper 01, "The step log", kinds 04, 05 and 0C; paper 02, changes 4
+-- and 6. Assumes nothing.
 use Prim.Native.Nat.{ℕ}
 use Rattle.base.specs.Lists.{tally}
 use Rattle.transit.specs.Message.{between}
-use Rattle.transit.specs.Unread.{appended, nextMessage, sentAt, AfterRemove, removed, valueIn, sequenceIn}
+use Rattle.transit.specs.Unread.{appended, nextMessage, sentAt, AfterRemove, removed, valueIn, sequenceIn, senderIn, firstSent}
 use Rattle.transit.specs.declared.Message.{Message}
 use Rattle.transit.specs.declared.Place.{Place}
 use Rattle.transit.specs.declared.Place.the-variants.{SourceChannel, Channel}
 use Rattle.transit.specs.declared.Rank.{Rank}
-use Rattle.transit.specs.declared.Selection.the-variants.{Between}
+use Rattle.transit.specs.declared.Selection.the-variants.{To, Between}
 use Rattle.protocol.specs.Done.{Done, done}
 use Rattle.broker.specs.State.{State, connection, messages, withUnread}
 use Rattle.broker.specs.declared.link.Connection.{Connection}
@@ -53,6 +53,10 @@ take b a s =
     (unreadBetween a b (withUnread (afterTake b a s .unread) s))
     (sequenceIn (afterTake b a s .found))
 
--- "v1 a rank with a message unread by r; which one is free": the rank named is given
-unfoldable pub look : Rank → Rank → State → Done
-look named r s = done s (named .0) 0 0
+-- Paper 02, change 6: "Look now names the sender of the message sent first of all those unread by r, whatever its place." The messages are
+-- one list in order of sending, so that order over all pairs is in step with each pair's
+abbrev pub oldestSender : Rank → State → Rank
+oldestSender r s = senderIn (firstSent (To r) (s .unread))
+
+unfoldable pub look : Rank → State → Done
+look r s = done s (oldestSender r s .0) 0 0

@@ -2,8 +2,8 @@
 ghost use mathlib.Core.Option.{none};
 ghost use mathlib.Core.Path.{_≡_};
 ghost use Rattle.protocol.specs.Checks.{refusal};
+ghost use Rattle.protocol.specs.Step.{apply};
 ghost use Rattle.desk.specs.Desk.{deskOf, Desk, DeskDoes};
-ghost use Rattle.desk.specs.Look.{applied};
 use answer::Values;
 use record::Record;
 use roster::Roster;
@@ -18,7 +18,7 @@ pub fn apply(
 ) -> Values
     requires { ⌜ Desk (now slots) (now contents) (now roster) ⌝ }
     requires { ⌜ refusal (deskOf (now slots) (now contents) (now roster)) read ≡ none ⌝ }
-    ensures { λ v. ⌜ DeskDoes (applied read) (now (slots .entry)) (now (contents .entry)) (now (roster .entry)) v (now (slots .exit))
+    ensures { λ v. ⌜ DeskDoes (apply read) (now (slots .entry)) (now (contents .entry)) (now (roster .entry)) v (now (slots .exit))
         (now (contents .exit)) (now (roster .exit)) ⌝ }
 {
     match read {

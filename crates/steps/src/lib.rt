@@ -1,7 +1,8 @@
 // A step of the log: the record at a position is decoded, checked and applied. Paper 01, "The step log" and "Where each step is checked".
+ghost use mathlib.Core.Path.{_≡_};
 ghost use Rattle.answer.specs.Answer.{NeverEighteen};
 ghost use Rattle.broker.specs.State.{view};
-ghost use Rattle.protocol.specs.Step.{Stepped};
+ghost use Rattle.protocol.specs.Step.{step};
 ghost use Rattle.steps.specs.Outcome.{outcome, RefusalKeeps};
 use answer::Answer;
 use answer::Refusal;
@@ -23,7 +24,7 @@ pub struct Outcome {
 // A step of any state, sound or spoiled. A refusal gives back the very state: its unused message slots too. Paper 02, change 2: no input
 // meets 18.
 pub fn step(broker: Broker, log: &[u8], at: usize) -> Outcome
-    ensures { λ o. ⌜ Stepped (view broker) (now (log .entry)) at (outcome o) ⌝ }
+    ensures { λ o. ⌜ outcome o ≡ step (view broker) (now (log .entry)) at ⌝ }
     ensures refused_unchanged { λ o. ⌜ RefusalKeeps (o .answer) broker (o .broker) ⌝ }
     ensures never_eighteen { λ o. ⌜ NeverEighteen (o .answer) ⌝ }
 {

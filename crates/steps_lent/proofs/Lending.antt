@@ -83,7 +83,7 @@ use denote.Exit.{yes}
 use Rattle.answer.specs.Answer.{NeverEighteen}
 use Rattle.protocol.specs.Laws.Restart.{never-eighteen}
 use Rattle.broker.specs.State.{view}
-use Rattle.protocol.specs.Step.{Stepped}
+use Rattle.protocol.specs.Step.{step}
 use Rattle.broker.specs.declared.state.Broker.{Broker}
 use Rattle.answer.proofs.Answer.Laws as A′
 use Rattle.broker.proofs.state.Broker as B
@@ -160,7 +160,7 @@ module _ {M : Type 1} (𝓤 : URA M) (H : Heap 𝓤) (A : Atoms 𝓤) (W : Given
 
   -- what the callee ensures of a reply and the state that it leaves
   abbrev Steps : Broker → Reply → Type 0
-  Steps d r = Stepped (view h) (now s) n (replied r (view d))
+  Steps d r = replied r (view d) ≡ step (view h) (now s) n
 
   abbrev Keeps : Broker → Reply → Type 0
   Keeps d r = RefusalKeeps (r .answer) h d

@@ -3,7 +3,7 @@
 // calls answered is added up and printed, so that none of them can be left out.
 ghost use Rattle.answer.specs.Answer.{NeverEighteen};
 ghost use Rattle.broker.specs.State.{view};
-ghost use Rattle.protocol.specs.Step.{Stepped};
+ghost use Rattle.protocol.specs.Step.{step};
 ghost use Rattle.desk.specs.Desk.{Desk};
 ghost use Rattle.steps.specs.Outcome.{outcome, RefusalKeeps};
 use answer::Answer;
@@ -63,7 +63,7 @@ fn told(answer: Answer) -> u64 {
 
 // A step by lending: the state is lent to the step, and then handed back.
 fn step_by_lending(mut broker: Broker, log: &[u8], at: usize) -> Outcome
-    ensures { λ o. ⌜ Stepped (view broker) (now (log .entry)) at (outcome o) ⌝ }
+    ensures { λ o. ⌜ outcome o ≡ step (view broker) (now (log .entry)) at ⌝ }
     ensures refused_unchanged { λ o. ⌜ RefusalKeeps (o .answer) broker (o .broker) ⌝ }
     ensures never_eighteen { λ o. ⌜ NeverEighteen (o .answer) ⌝ }
 {
@@ -77,7 +77,7 @@ fn step_by_lending(mut broker: Broker, log: &[u8], at: usize) -> Outcome
 
 // A step in the way that is asked for.
 fn step_by(call: u8, broker: Broker, log: &[u8], at: usize) -> Outcome
-    ensures { λ o. ⌜ Stepped (view broker) (now (log .entry)) at (outcome o) ⌝ }
+    ensures { λ o. ⌜ outcome o ≡ step (view broker) (now (log .entry)) at ⌝ }
 {
     if call == LENT {
         step_by_lending(broker, log, at)

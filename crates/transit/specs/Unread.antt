@@ -6,7 +6,7 @@ use Prim.Native.Nat.{ℕ, _+_}
 use lib.Dec.{ltb}
 use lib.ListN.{length, take, getD, set, replicate}
 use Rattle.base.specs.Lists.{select, without, changeFirst, changeEach}
-use Rattle.transit.specs.Message.{message, picks, placeOrder, relabelled, at, pairOf, cells}
+use Rattle.transit.specs.Message.{rank, message, picks, placeOrder, relabelled, at, pairOf, cells}
 use Rattle.transit.specs.declared.Found.{Found}
 use Rattle.transit.specs.declared.Found.the-variants.{First, Nothing}
 use Rattle.transit.specs.declared.Message.{Message}
@@ -88,6 +88,11 @@ valueIn (First m) = m .value
 abbrev pub sequenceIn : Found → ℕ
 sequenceIn Nothing = 0
 sequenceIn (First m) = m .sequence
+
+-- the sender of what was found, and rank 0 of nothing
+abbrev pub senderIn : Found → Rank
+senderIn Nothing = rank 0
+senderIn (First m) = m .sender
 
 -- the selected message that was sent first
 abbrev pub firstSent : Selection → Unread → Found

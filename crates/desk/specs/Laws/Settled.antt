@@ -1,7 +1,6 @@
 -- What a record comes to, by a verdict that gives the refusal of the definition. Assumes nothing.
 use mathlib.Core.Option.{none, some}
 use mathlib.Core.Path.{_≡_, sym, ap, _∙_}
-use Rattle.transit.specs.declared.Rank.{Rank}
 use Rattle.protocol.specs.Checks.{refusal}
 use Rattle.protocol.specs.Done.{Done}
 use Rattle.broker.specs.State.{State}
@@ -15,16 +14,16 @@ use Rattle.verdict.specs.Verdict.{verdictOf}
 use Rattle.verdict.specs.declared.Verdict.{Verdict}
 use Rattle.verdict.specs.declared.Verdict.the-variants.{Passed, Failed}
 
-module _ (r : Record) (s : State) (v : Verdict) (judged : Judges r s v) (named : Rank) where
+module _ (r : Record) (s : State) (v : Verdict) (judged : Judges r s v) where
   -- a verdict that refuses: the state is as it was
-  pub settle-refused : (n : Refusal) → v ≡ Failed n → _≡_ {A = Settlement} (record { answer = Refused n; state = s }) (settle named r s)
+  pub settle-refused : (n : Refusal) → v ≡ Failed n → _≡_ {A = Settlement} (record { answer = Refused n; state = s }) (settle r s)
   unfolding settle
   settle-refused n e = let h : refusal s r ≡ some n = sym judged ∙ ap verdictOf e in rw h
 
   -- a verdict that passes: what the record does
   pub settle-accepted :
-      (w : Values) (s' : State) → v ≡ Passed → Does (apply named r) s w s' →
-      _≡_ {A = Settlement} (record { answer = Accepted w; state = s' }) (settle named r s)
+      (w : Values) (s' : State) → v ≡ Passed → Does (apply r) s w s' →
+      _≡_ {A = Settlement} (record { answer = Accepted w; state = s' }) (settle r s)
   unfolding settle
   settle-accepted w s' e does =
       let h : refusal s r ≡ none = sym judged ∙ ap verdictOf e in

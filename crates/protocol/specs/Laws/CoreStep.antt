@@ -101,21 +101,21 @@ module _ (s : State) (b a : Rank) (h : sound s ≡ true) (f : TakeFits s b a) wh
   unfolding take
   take-sequence = rw (taken .removes) (take-first (λ m. m .sequence))
 
-pub core-step : (named : Rank) (s : State) (r : Record) → sound s ≡ true → refusal s r ≡ none
-    → core (apply named r s .state) ≡ coreStep r (core s)
+pub core-step : (s : State) (r : Record) → sound s ≡ true → refusal s r ≡ none
+    → core (apply r s .state) ≡ coreStep r (core s)
 unfolding apply look start send move heed land part end
-core-step named s (Start r h) sd p = rw map-set
-core-step named s (Call a b) sd p = call-unseen core core-with-request a b s
-core-step named s (Route a b) sd p = route-unseen core core-with-request (λ t ls. refl) (λ t vs. refl) a b s
-core-step named s (Send a b v) sd p =
+core-step s (Start r h) sd p = rw map-set
+core-step s (Call a b) sd p = call-unseen core core-with-request a b s
+core-step s (Route a b) sd p = route-unseen core core-with-request (λ t ls. refl) (λ t vs. refl) a b s
+core-step s (Send a b v) sd p =
     rw (appends (s .unread) a b (placeOver (connection s a b)) v (send-fits s a b v p .room), map-append)
-core-step named s (Take b a) sd p = take-core s b a sd (take-fits s b a p)
-core-step named s (Move r h) sd p = rw (relabels, relabels, eachTo-letters, eachTo-letters, map-set)
-core-step named s (Heed b r) sd p = rw (relabels, eachTo-letters)
-core-step named s (Drain r q) sd p = drain-cases (λ t. core t ≡ core s) r q s (rw (relabels-first, firstTo-letters)) refl
-core-step named s (Land r) sd p =
+core-step s (Take b a) sd p = take-core s b a sd (take-fits s b a p)
+core-step s (Move r h) sd p = rw (relabels, relabels, eachTo-letters, eachTo-letters, map-set)
+core-step s (Heed b r) sd p = rw (relabels, eachTo-letters)
+core-step s (Drain r q) sd p = drain-cases (λ t. core t ≡ core s) r q s (rw (relabels-first, firstTo-letters)) refl
+core-step s (Land r) sd p =
     let stays = landed-as (status s r) (land-fits s r p .migrating) in
     rw (relabels, eachTo-letters, standings-with-status settled s r (Running (endpoint (status s r))) stays)
-core-step named s (Part a b) sd p = rw (relabels, relabels, eachTo-letters, eachTo-letters)
-core-step named s (End r) sd p = rw (map-set, core-status s r, endpoint-settled)
-core-step named s (Look r) sd p = refl
+core-step s (Part a b) sd p = rw (relabels, relabels, eachTo-letters, eachTo-letters)
+core-step s (End r) sd p = rw (map-set, core-status s r, endpoint-settled)
+core-step s (Look r) sd p = refl

@@ -20,17 +20,17 @@ fresh-is-sound = tt
 pub plays-sound :
     (ts : List Try) (test : State → Bool) (s : State) →
     Sound.sound s ≡ true →
-    plays (λ s log. step (rank 0) s log 0) ts test s ≡ plays (λ s log. stepSound (rank 0) s log 0) ts test s
+    plays (λ s log. step s log 0) ts test s ≡ plays (λ s log. stepSound s log 0) ts test s
 plays-sound [] test s h = refl
 plays-sound (t ∷ ts) test s h =
-    let o = step (rank 0) s (t .log) 0 in
-    ap (λ (b : Bool). t .fits (o .answer) && b) (plays-sound ts test (o .state) (step-keeps-sound (rank 0) s (t .log) 0 h)) ∙
+    let o = step s (t .log) 0 in
+    ap (λ (b : Bool). t .fits (o .answer) && b) (plays-sound ts test (o .state) (step-keeps-sound s (t .log) 0 h)) ∙
     ap
-    (λ (o : Outcome). t .fits (o .answer) && plays (λ s log. stepSound (rank 0) s log 0) ts test (o .state))
-    (step-of-sound (rank 0) s (t .log) 0 h)
+    (λ (o : Outcome). t .fits (o .answer) && plays (λ s log. stepSound s log 0) ts test (o .state))
+    (step-of-sound s (t .log) 0 h)
 
 abbrev pub holdsSound : Edge → Bool
-holdsSound e = plays (λ s log. stepSound (rank 0) s log 0) (e .steps) (e .then) fresh
+holdsSound e = plays (λ s log. stepSound s log 0) (e .steps) (e .then) fresh
 
 -- So a run is computed without it.
 pub by-computing : (e : Edge) → holdsSound e ≡ true → holds e ≡ true

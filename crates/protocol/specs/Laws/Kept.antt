@@ -20,14 +20,14 @@ use Rattle.broker.specs.State.{State, messages}
 use Rattle.protocol.specs.Step.{apply}
 use Rattle.record.specs.declared.Record.{Record}
 
-facts-kept : (named : Rank) (s : State) (r : Record) → Facts s → refusal s r ≡ none → Facts (apply named r s .state)
-facts-kept named s r f p =
-    let after = apply named r s .state in
-    let views = views-kept named s r f p in
+facts-kept : (s : State) (r : Record) → Facts s → refusal s r ≡ none → Facts (apply r s .state)
+facts-kept s r f p =
+    let after = apply r s .state in
+    let views = views-kept s r f p in
     let order = views .order in
     record {
-      shape = shape-kept named s r (f .shape);
-      names = names-kept named s r f p;
+      shape = shape-kept s r (f .shape);
+      names = names-kept s r f p;
       pairs = views .pairs;
       mail =
           record {
@@ -43,5 +43,5 @@ facts-kept named s r f p =
     }
 
 -- "Every step keeps a sound state sound."
-pub sound-kept : (named : Rank) (s : State) (r : Record) → sound s ≡ true → refusal s r ≡ none → sound (apply named r s .state) ≡ true
-sound-kept named s r h p = of-facts (apply named r s .state) (facts-kept named s r (facts s h) p)
+pub sound-kept : (s : State) (r : Record) → sound s ≡ true → refusal s r ≡ none → sound (apply r s .state) ≡ true
+sound-kept s r h p = of-facts (apply r s .state) (facts-kept s r (facts s h) p)

@@ -51,30 +51,30 @@ migrates-still : (s : State) (p : Rank) (t : Status) → isMigrating t ≡ isMig
     → (r : Rank) → isMigrating (status (withStatus p t s) r) ≡ isMigrating (status s r)
 migrates-still s p t e r = store-unseen (λ (q : Process). isMigrating (q .status)) (s .processes) (p .0) (r .0) _ idle e
 
-pub migrating-step : (named : Rank) (s : State) (x : Record) (r : Rank) → sound s ≡ true → refusal s x ≡ none
-    → isMigrating (status (apply named x s .state) r) ≡ openAfter r (isMigrating (status s r)) x
+pub migrating-step : (s : State) (x : Record) (r : Rank) → sound s ≡ true → refusal s x ≡ none
+    → isMigrating (status (apply x s .state) r) ≡ openAfter r (isMigrating (status s r)) x
 unfolding apply start send take move heed land part end look
-migrating-step named s (Start p h) r sd k =
+migrating-step s (Start p h) r sd k =
     let f = start-fits s p h k in
     migrates-still s p (Running (nextVmid s h)) (sym (unstarted-not-migrating (status s p) (f .unstarted))) r
-migrating-step named s (Call a b) r sd k =
+migrating-step s (Call a b) r sd k =
     call-unseen (λ t. isMigrating (status t r)) (λ t p q. ap isMigrating (status-with-request t p r q)) a b s
-migrating-step named s (Route a b) r sd k =
+migrating-step s (Route a b) r sd k =
     let see : State → Bool = λ t. isMigrating (status t r) in
     route-unseen see (λ t p q. ap isMigrating (status-with-request t p r q)) (λ t ls. refl) (λ t vs. refl) a b s
-migrating-step named s (Send a b v) r sd k = refl
-migrating-step named s (Take b a) r sd k = refl
-migrating-step named s (Move p h) r sd k =
+migrating-step s (Send a b v) r sd k = refl
+migrating-step s (Take b a) r sd k = refl
+migrating-step s (Move p h) r sd k =
     let f = move-fits s p h k in
     migrates-as s (move p h s .state) p (Migrating (endpoint (status s p)) (nextVmid s h)) sd (f .one .in-range) refl r
-migrating-step named s (Heed b p) r sd k = refl
-migrating-step named s (Drain p q) r sd k =
+migrating-step s (Heed b p) r sd k = refl
+migrating-step s (Drain p q) r sd k =
     drain-cases (λ t. isMigrating (status t r) ≡ isMigrating (status s r)) p q s refl refl
-migrating-step named s (Land p) r sd k =
+migrating-step s (Land p) r sd k =
     let f = land-fits s p k in
     migrates-as s (land p s .state) p (Running (endpoint (status s p))) sd (f .one .in-range) refl r
-migrating-step named s (Part a b) r sd k = refl
-migrating-step named s (End p) r sd k =
+migrating-step s (Part a b) r sd k = refl
+migrating-step s (End p) r sd k =
     let f = end-fits s p k in
     migrates-still s p (Ended (endpoint (status s p))) (sym (running-not-migrating (status s p) (f .running))) r
-migrating-step named s (Look p) r sd k = refl
+migrating-step s (Look p) r sd k = refl

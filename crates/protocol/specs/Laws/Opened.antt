@@ -49,8 +49,8 @@ openedSound s = Sound.sound s
 
 -- a step of a sound state; where this is opened, all that it computes with is open, and so the lower part's operations: for what is
 -- computed alone, and for no law
-unfoldable pub opened : Rank → State → List ℕ → ℕ → Outcome
+unfoldable pub opened : State → List ℕ → ℕ → Outcome
 unfolding stepSound settle apply decode recordOf openedChecks openedUnread Life.announced Life.start Life.end Connect.call
     Connect.route Connect.part Messages.send Messages.take Messages.look Migrate.leaveAll Migrate.move Migrate.heed
     Migrate.drain Migrate.land everyRank everyPair countRanks eachRank
-opened named s log at = stepSound named s log at
+opened s log at = stepSound s log at

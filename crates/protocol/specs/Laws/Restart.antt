@@ -128,7 +128,7 @@ module _ (s : State) (r : Rank) (v : Vmid) (ok : sound s ≡ true) (in-range : r
 
     -- and carried out as a move: "the arrival gets h's next number"
     pub restart-carried-out :
-        (named : Rank) (log : List ℕ) (at next : ℕ) → decode log at ≡ Whole (Move r (v .0)) next →
-        step named s log at ≡ carried (move r (v .0) s) next
+        (log : List ℕ) (at next : ℕ) → decode log at ≡ Whole (Move r (v .0)) next →
+        step s log at ≡ carried (move r (v .0) s) next
     unfolding apply
-    restart-carried-out named log at next read = step-accepted named s log at _ next ok read restart-accepted
+    restart-carried-out log at next read = step-accepted s log at _ next ok read restart-accepted

@@ -39,10 +39,10 @@ abbrev pub carried : Done → ℕ → Outcome
 carried d next = record { answer = Accepted (d .values); next = next; state = d .state }
 
 -- What a step comes to: a refusal that leaves the state as it was, or a record that passes every check and is carried out.
-pub data Course (named : Rank) (s : State) (log : List ℕ) (at : ℕ) : Type 0 where
-  turned-away : (n : Refusal) → step named s log at ≡ refused n (cond (staysAt n) at (pastRecord log at)) s → Course named s log at
+pub data Course (s : State) (log : List ℕ) (at : ℕ) : Type 0 where
+  turned-away : (n : Refusal) → step s log at ≡ refused n (cond (staysAt n) at (pastRecord log at)) s → Course s log at
   carried-out : (r : Record) → sound s ≡ true → decode log at ≡ Whole r (pastRecord log at) → refusal s r ≡ none
-      → step named s log at ≡ carried (apply named r s) (pastRecord log at) → Course named s log at
+      → step s log at ≡ carried (apply r s) (pastRecord log at) → Course s log at
 
 -- A record that is read whole ends where its kind says.
 pub whole-ends : (log : List ℕ) (at : ℕ) (r : Record) (next : ℕ) → decode log at ≡ Whole r next → next ≡ pastRecord log at
@@ -66,31 +66,36 @@ checks-pass-record (c ∷ cs) all s r n e =
     (λ g. checks-pass-record cs (both-right (not (staysAt (c .refusal))) _ all) s r n (rw g at e))
 
 -- A step of a sound state goes by the record that it reads.
-pub step-of-sound : (named : Rank) (s : State) (log : List ℕ) (at : ℕ) → sound s ≡ true → step named s log at ≡ stepSound named s log at
+pub step-of-sound : (s : State) (log : List ℕ) (at : ℕ) → sound s ≡ true → step s log at ≡ stepSound s log at
 unfolding step
-step-of-sound named s log at h = rw h
+step-of-sound s log at h = rw h
+
+-- Any other is refused.
+pub step-of-unsound : (s : State) (log : List ℕ) (at : ℕ) → sound s ≡ false → step s log at ≡ refused Unsound at s
+unfolding step
+step-of-unsound s log at h = rw h
 
 -- A record that passes every check is carried out.
-pub step-accepted : (named : Rank) (s : State) (log : List ℕ) (at : ℕ) (r : Record) (next : ℕ) → sound s ≡ true
-    → decode log at ≡ Whole r next → refusal s r ≡ none → step named s log at ≡ carried (apply named r s) next
+pub step-accepted : (s : State) (log : List ℕ) (at : ℕ) (r : Record) (next : ℕ) → sound s ≡ true
+    → decode log at ≡ Whole r next → refusal s r ≡ none → step s log at ≡ carried (apply r s) next
 unfolding stepSound settle
-step-accepted named s log at r next h d p = step-of-sound named s log at h ∙ rw (d, p)
+step-accepted s log at r next h d p = step-of-sound s log at h ∙ rw (d, p)
 
 -- Every step takes one of the two courses.
-pub course : (named : Rank) (s : State) (log : List ℕ) (at : ℕ) → Course named s log at
+pub course : (s : State) (log : List ℕ) (at : ℕ) → Course s log at
 unfolding step stepSound settle checks refusal
-course named s log at = by-test (sound s) (λ h. by-record h (decode log at) refl) (λ h. turned-away Unsound (rw h))
+course s log at = by-test (sound s) (λ h. by-record h (decode log at) refl) (λ h. turned-away Unsound (rw h))
   where
     by-check : (r : Record) → sound s ≡ true → decode log at ≡ Whole r (pastRecord log at) → (o : Option Refusal) → refusal s r ≡ o
-        → Course named s log at
-    by-check r h d none p = carried-out r h d p (step-accepted named s log at r (pastRecord log at) h d p)
+        → Course s log at
+    by-check r h d none p = carried-out r h d p (step-accepted s log at r (pastRecord log at) h d p)
     by-check r h d (some n) p =
-        turned-away n (step-of-sound named s log at h ∙ rw (d, p, checks-pass-record checks refl s r n p))
+        turned-away n (step-of-sound s log at h ∙ rw (d, p, checks-pass-record checks refl s r n p))
 
-    by-record : sound s ≡ true → (d : Decoded) → decode log at ≡ d → Course named s log at
+    by-record : sound s ≡ true → (d : Decoded) → decode log at ≡ d → Course s log at
     by-record h (Whole r next) e = by-check r h (rw (whole-ends log at r next e) at e) (refusal s r) refl
-    by-record h Unknown e = turned-away UnknownKind (step-of-sound named s log at h ∙ rw e)
-    by-record h Cut e = turned-away CutShort (step-of-sound named s log at h ∙ rw e)
+    by-record h Unknown e = turned-away UnknownKind (step-of-sound s log at h ∙ rw e)
+    by-record h Cut e = turned-away CutShort (step-of-sound s log at h ∙ rw e)
 
 -- "A refusal leaves the state lent for a step unchanged, v1 to v3 zero. The position passes the record, except at 1, 2 and 3, where it
 -- stays."
@@ -99,20 +104,20 @@ pub record Leaves (s : State) (log : List ℕ) (at : ℕ) (n : Refusal) (o : Out
   pub zeros : values (o .answer) ≡ 0 ∷ 0 ∷ 0 ∷ []
   pub position : o .next ≡ cond (staysAt n) at (pastRecord log at)
 
-pub step-refused : (named : Rank) (s : State) (log : List ℕ) (at : ℕ) (n : Refusal) → step named s log at .answer ≡ Refused n
-    → Leaves s log at n (step named s log at)
-step-refused named s log at n e = go (course named s log at)
+pub step-refused : (s : State) (log : List ℕ) (at : ℕ) (n : Refusal) → step s log at .answer ≡ Refused n
+    → Leaves s log at n (step s log at)
+step-refused s log at n e = go (course s log at)
   where
-    go : Course named s log at → Leaves s log at n (step named s log at)
+    go : Course s log at → Leaves s log at n (step s log at)
     go (turned-away m t) =
         let same : m ≡ n = cc in
         record { state-kept = ap (λ (o : Outcome). o .state) t; zeros = rw e; position = rw (t, same) }
     go (carried-out r h d p t) = let z : _≡_ {A = ℕ} 0 1 = cc in absurd (omega arith)
 
 -- "Every step keeps a sound state sound."
-pub step-keeps-sound : (named : Rank) (s : State) (log : List ℕ) (at : ℕ) → sound s ≡ true → sound (step named s log at .state) ≡ true
-step-keeps-sound named s log at h = go (course named s log at)
+pub step-keeps-sound : (s : State) (log : List ℕ) (at : ℕ) → sound s ≡ true → sound (step s log at .state) ≡ true
+step-keeps-sound s log at h = go (course s log at)
   where
-    go : Course named s log at → sound (step named s log at .state) ≡ true
+    go : Course s log at → sound (step s log at .state) ≡ true
     go (turned-away n t) = rw t h
-    go (carried-out r h d p t) = rw t (sound-kept named s r h p)
+    go (carried-out r h d p t) = rw t (sound-kept s r h p)

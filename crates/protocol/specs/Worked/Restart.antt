@@ -54,7 +54,7 @@ pub vmids-differ : sameVmid (vmid 5 1) (vmid 5 2) ≡ false
 unfolding start announced
 vmids-differ = restart-apart started (rank 0) (vmid 5 1) is-sound (omega arith) runs
 
-pub restart-is-carried-out : step (rank 0) started (Kind.move ∷ 0 ∷ 5 ∷ []) 0 ≡ carried (move (rank 0) 5 started) 3
+pub restart-is-carried-out : step started (Kind.move ∷ 0 ∷ 5 ∷ []) 0 ≡ carried (move (rank 0) 5 started) 3
 unfolding start announced decode recordOf
 restart-is-carried-out =
-    restart-carried-out started (rank 0) (vmid 5 1) is-sound (omega arith) runs refl has-room (rank 0) (Kind.move ∷ 0 ∷ 5 ∷ []) 0 3 refl
+    restart-carried-out started (rank 0) (vmid 5 1) is-sound (omega arith) runs refl has-room (Kind.move ∷ 0 ∷ 5 ∷ []) 0 3 refl

@@ -57,7 +57,7 @@ is-sound : sound (having 0 4294967294) ≡ true
 unfolding openedSound start announced eachRank
 is-sound = refl
 
-pub one-more-and-then-28 : plays (λ s log. step (rank 0) s log 0) to-the-last all-sent (having 0 4294967294) ≡ true
+pub one-more-and-then-28 : plays (λ s log. step s log 0) to-the-last all-sent (having 0 4294967294) ≡ true
 unfolding opened
 one-more-and-then-28 = plays-sound to-the-last all-sent (having 0 4294967294) is-sound ∙ refl
 

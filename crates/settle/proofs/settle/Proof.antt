@@ -4,7 +4,6 @@ use borrow.Author.Needs.{needs}
 use Rattle.broker.specs.State.{State}
 use Rattle.desk.specs.Desk.{deskOf}
 use Rattle.desk.specs.Laws.Settled.{settle-refused, settle-accepted, nothing-applies}
-use Rattle.desk.specs.Look.{nameFor}
 use Rattle.settle.proofs.settle.Statement.{statement}
 use Rattle.settle.proofs.settle.Tie as tie
 
@@ -31,7 +30,7 @@ returns c =
     record {
       kept = start .pre;
       same = λ ok.
-          settle-refused read (desk start) _ (judged .judge .ensures) (nameFor (desk start) read) _ (arm .verdict .given .1);
+          settle-refused read (desk start) _ (judged .judge .ensures) _ (arm .verdict .given .1);
     }
 
 returns-2 : tie.Need-returns-2
@@ -44,7 +43,7 @@ returns-2 c =
     record {
       kept = done .kept;
       same = λ ok.
-          settle-accepted read (desk start) _ (judged .judge .ensures) (nameFor (desk start) read) (c .apply .result) _
+          settle-accepted read (desk start) _ (judged .judge .ensures) (c .apply .result) _
           (told .enum-told .given .1) (done .does ok);
     }
 

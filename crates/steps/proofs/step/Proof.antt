@@ -1,14 +1,13 @@
 -- `steps::step` meets its contract: a sound state is stepped on the arrays and comes back from them, any other is refused.
 -- Assumes nothing.
-use mathlib.Core.Path.{refl, sym, subst, _∙_}
+use mathlib.Core.Path.{refl, sym, ap, _∙_}
 use borrow.Author.Needs.{needs}
 use borrow.Author.Tests.{not-true, not-false}
 use Rattle.protocol.specs.Laws.Restart.{never-eighteen}
 use Rattle.broker.specs.State.{State, view}
-use Rattle.protocol.specs.Step.{Stepped}
 use Rattle.steps.specs.Laws.InPlace.{stepped-in-place}
 use Rattle.steps.specs.Laws.Refused.{accepted-is-no-refusal, refused-step}
-use Rattle.steps_in_place.specs.Laws.Step.{unsound-step}
+use Rattle.protocol.specs.Laws.Step.{step-of-unsound}
 use Rattle.steps_in_place.specs.InPlace.{replied}
 use Rattle.steps.proofs.step.Statement.{statement}
 use Rattle.steps.proofs.step.Tie as tie
@@ -18,7 +17,7 @@ returns c =
     let loaded = c .before in
     let args = loaded .before .before .before .before .before .args in
     let failed = sym (loaded .load .ensures .tells) ∙ not-true _ (c .if1 .taken) in
-    (unsound-step (view (args .broker)) (args .log .now) (args .at) failed, (λ n e. refl, never-eighteen _))
+    (sym (step-of-unsound (view (args .broker)) (args .log .now) (args .at) failed), (λ n e. refl, never-eighteen _))
 
 step-in-place-requires : tie.Need-step-in-place-requires
 step-in-place-requires c κs =
@@ -53,8 +52,7 @@ returns-3 c =
     let stepped =
     stepped-in-place (view (args .broker)) (sym (loaded .load .ensures .tells) ∙ passed) (loaded .load .ensures .holds passed)
     (step .step-in-place .ensures .0) in (
-      subst (λ (s : State). Stepped (view (args .broker)) (args .log .now) (args .at) (replied (step .step-in-place .result) s))
-          (sym (c .unload .ensures)) stepped,
+      ap (λ (s : State). replied (step .step-in-place .result) s) (c .unload .ensures) ∙ stepped,
       (
         accepted-is-no-refusal (step .step-in-place .result .answer) _ _ _ (told .enum-told2 .given .1),
         step .step-in-place .ensures .1,

@@ -87,7 +87,7 @@ use denote.Exit.{yes}
 use Rattle.answer.specs.Answer.{NeverEighteen}
 use Rattle.protocol.specs.Laws.Restart.{never-eighteen}
 use Rattle.broker.specs.State.{view}
-use Rattle.protocol.specs.Step.{Stepped}
+use Rattle.protocol.specs.Step.{step}
 use Rattle.broker.specs.declared.state.Broker.{Broker}
 use Rattle.answer.proofs.Answer.Laws as A′
 use Rattle.broker.proofs.state.Broker as B
@@ -200,7 +200,7 @@ module _ {M : Type 1} (𝓤 : URA M) (H : Heap 𝓤) (A : Atoms 𝓤) (W : Given
 
   -- what the callee ensures of an outcome
   abbrev Steps : Outcome → Type 0
-  Steps r = Stepped (view h) (now s) n (outcome r)
+  Steps r = outcome r ≡ step (view h) (now s) n
 
   abbrev Keeps : Outcome → Type 0
   Keeps r = RefusalKeeps (r .answer) h (r .broker)

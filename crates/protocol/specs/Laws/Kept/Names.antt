@@ -223,9 +223,9 @@ module _ {s : State} (f : Shape s) (n : Names s) where
       chosen Names (asksFor b (request s a)) (withRequest a Absent s) s (λ _. names-with-request a Absent ha refl) (λ _. n)
 
 -- every accepted record keeps the names sound
-pub names-kept : (named : Rank) (s : State) (r : Record) → Facts s → refusal s r ≡ none → Names (apply named r s .state)
+pub names-kept : (s : State) (r : Record) → Facts s → refusal s r ≡ none → Names (apply r s .state)
 unfolding apply start call send take move heed land part end look
-names-kept named s (Start r h) f p =
+names-kept s (Start r h) f p =
     let k = start-fits s r h p in
     let v = nextVmid s h in
     let drawn = next-drawn s h (f .shape .drawn-long) (k .host) in
@@ -235,11 +235,11 @@ names-kept named s (Start r h) f p =
     (λ b hb _. both (next-unshared (f .shape) (f .names) h b hb) refl)
     (λ a ha. rw (announced-own r v (s .locations) long a ha (k .in-range)) drawn)
     (λ a b hb. announced-other r v (s .locations) long a b hb (k .in-range))
-names-kept named s (Call a b) f p =
+names-kept s (Call a b) f p =
     let two = call-fits s a b p .two in
     names-with-request (f .shape) (f .names) a (Posted b (location s a b)) (two .first)
     (both (lt-ltb (b .0) ranks (two .second)) (as-told (f .shape) (f .names) b (two .second) (two .second-started) a (two .first)))
-names-kept named s (Route a b) f p =
+names-kept s (Route a b) f p =
     let two = route-fits s a b p .two in
     let v = endpoint (status s b) in
     let drawn = end-drawn (f .shape) (f .names) b (two .second) (two .second-started) in
@@ -250,9 +250,9 @@ names-kept named s (Route a b) f p =
     (names-with-request told
     (names-with-location (f .shape) (f .names) a b v (two .first) (two .second) (two .second-started) drawn) a (Posted b v) (two .first)
     (both (lt-ltb (b .0) ranks (two .second)) drawn))
-names-kept named s (Send a b v) f p = names-elsewhere _ _ (f .names)
-names-kept named s (Take b a) f p = names-elsewhere _ _ (f .names)
-names-kept named s (Move r h) f p =
+names-kept s (Send a b v) f p = names-elsewhere _ _ (f .names)
+names-kept s (Take b a) f p = names-elsewhere _ _ (f .names)
+names-kept s (Move r h) f p =
     let k = move-fits s r h p in
     let one = k .one in
     let source = endpoint (status s r) in
@@ -269,16 +269,16 @@ names-kept named s (Move r h) f p =
     (both (both (rw (sameVmid-swap target source) at (next-apart s h source known)) refl) refl)
     (λ b hb e. both (unshared b hb e) (both (next-unshared (f .shape) (f .names) h b hb) refl))
     (as-told shape names r (one .in-range) (one .started)) (λ a b hb e. refl))
-names-kept named s (Heed b r) f p = names-elsewhere _ _ (f .names)
-names-kept named s (Drain r q) f p = drain-cases Names r q s (names-elsewhere _ _ (f .names)) (names-elsewhere _ _ (f .names))
-names-kept named s (Land r) f p =
+names-kept s (Heed b r) f p = names-elsewhere _ _ (f .names)
+names-kept s (Drain r q) f p = drain-cases Names r q s (names-elsewhere _ _ (f .names)) (names-elsewhere _ _ (f .names))
+names-kept s (Land r) f p =
     let k = land-fits s r p in
     let one = k .one in
     let live = migrating-not-ended (status s r) (k .migrating) in
     let unshared = end-unshared (f .shape) (f .names) r (one .in-range) (one .started) live in
     names-elsewhere _ _
     (names-at-end (f .shape) (f .names) r (Running (endpoint (status s r))) one refl refl refl (λ b hb e. both (unshared b hb e) refl))
-names-kept named s (Part a b) f p = names-elsewhere _ _ (f .names)
-names-kept named s (End r) f p =
+names-kept s (Part a b) f p = names-elsewhere _ _ (f .names)
+names-kept s (End r) f p =
     names-at-end (f .shape) (f .names) r (Ended (endpoint (status s r))) (end-fits s r p .one) refl refl refl (λ b hb e. refl)
-names-kept named s (Look r) f p = f .names
+names-kept s (Look r) f p = f .names

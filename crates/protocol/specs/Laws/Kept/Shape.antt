@@ -108,26 +108,26 @@ pub shape-withdraw : {s : State} (a b : Rank) → Shape s → Shape (withdraw a 
 shape-withdraw {s} a b f = chosen Shape (asksFor b (request s a)) _ s (λ e. shape-with-process a _ f) (λ e. f)
 
 -- every record keeps the shape, accepted or not
-pub shape-kept : (named : Rank) (s : State) (r : Record) → Shape s → Shape (apply named r s .state)
+pub shape-kept : (s : State) (r : Record) → Shape s → Shape (apply r s .state)
 unfolding apply start end call part send take look move heed land
-shape-kept named s (Start r h) f =
+shape-kept s (Start r h) f =
     shape-with-locations _ (announced-long r _ (s .locations) (f .locations-long))
     (shape-with-process r _ (shape-with-drawn h _ f))
-shape-kept named s (Call a b) f = shape-with-process a _ f
-shape-kept named s (Route a b) f =
+shape-kept s (Call a b) f = shape-with-process a _ f
+shape-kept s (Route a b) f =
     route-cases Shape a b s (shape-with-process a _ f) (shape-withdraw b a (shape-withdraw a b (shape-connect a b Open f)))
     (shape-with-locations _ (rw length-set (f .locations-long)) (shape-with-process a _ f))
-shape-kept named s (Send a b v) f = shape-with-unread _ (sends-long (s .unread) a b _ v (f .sent-long)) f
-shape-kept named s (Take b a) f = shape-with-unread _ (takes-long (Between a b) (s .unread) (f .sent-long)) f
-shape-kept named s (Move r h) f =
+shape-kept s (Send a b v) f = shape-with-unread _ (sends-long (s .unread) a b _ v (f .sent-long)) f
+shape-kept s (Take b a) f = shape-with-unread _ (takes-long (Between a b) (s .unread) (f .sent-long)) f
+shape-kept s (Move r h) f =
     shape-with-links _ (leaveAll-long r (s .links) (f .links-long))
     (shape-with-unread _ (rw (relabels, relabels) (f .sent-long)) (shape-with-process r _ (shape-with-drawn h _ f)))
-shape-kept named s (Heed b r) f =
+shape-kept s (Heed b r) f =
     shape-with-links _ (rw (length-set, length-set) (f .links-long)) (shape-with-unread _ (rw relabels (f .sent-long)) f)
-shape-kept named s (Drain r p) f =
+shape-kept s (Drain r p) f =
     drain-cases Shape r p s (shape-with-unread _ (rw relabels-first (f .sent-long)) f)
     (shape-with-links _ (rw length-set (f .links-long)) f)
-shape-kept named s (Land r) f = shape-with-process r _ (shape-with-unread _ (rw relabels (f .sent-long)) f)
-shape-kept named s (Part a b) f = shape-connect a b Closed (shape-with-unread _ (rw (relabels, relabels) (f .sent-long)) f)
-shape-kept named s (End r) f = shape-with-process r _ f
-shape-kept named s (Look r) f = f
+shape-kept s (Land r) f = shape-with-process r _ (shape-with-unread _ (rw relabels (f .sent-long)) f)
+shape-kept s (Part a b) f = shape-connect a b Closed (shape-with-unread _ (rw (relabels, relabels) (f .sent-long)) f)
+shape-kept s (End r) f = shape-with-process r _ f
+shape-kept s (Look r) f = f

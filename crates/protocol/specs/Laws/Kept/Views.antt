@@ -233,18 +233,18 @@ module _ (s : State) (f : Facts s) where
           let ready : isUnheeded (backlog s r p) ≡ false = rw none at (k .ready) in
           views-still f (Effects.clear-effect s f r p k ready) refl (λ x. refl) (λ x. refl) (none-passes (onLane p r) (messages s) none)
 
-pub views-kept : (named : Rank) (s : State) (r : Record) → Facts s → refusal s r ≡ none → Views (apply named r s .state)
+pub views-kept : (s : State) (r : Record) → Facts s → refusal s r ≡ none → Views (apply r s .state)
 unfolding apply look start end call move heed land part
-views-kept named s (Start r h) f p =
+views-kept s (Start r h) f p =
     let e = Effects.start-effect s f r h (Accepted.start-fits s r h p) in
     views-still f e refl (λ x. refl) (λ x. refl) (free f e (λ x. refl))
-views-kept named s (Call a b) f p =
+views-kept s (Call a b) f p =
     let e = Effects.call-effect s f a b (Accepted.call-fits s a b p) in
     views-still f e refl (λ x. refl) (λ x. refl) (free f e (λ x. refl))
-views-kept named s (Route a b) f p = views-route s f a b (Accepted.route-fits s a b p)
-views-kept named s (Send a b v) f p = views-send s f a b v (Accepted.send-fits s a b v p)
-views-kept named s (Take b a) f p = views-take s f b a
-views-kept named s (Move r h) f p =
+views-kept s (Route a b) f p = views-route s f a b (Accepted.route-fits s a b p)
+views-kept s (Send a b v) f p = views-send s f a b v (Accepted.send-fits s a b v p)
+views-kept s (Take b a) f p = views-take s f b a
+views-kept s (Move r h) f p =
     let e = Effects.move-effect s f r h (Accepted.move-fits s r h p) in
     let listed : Message → Message = changeEach (picks (ToAt r EndList)) (relabelled SourceList) in
     views-anew f e (λ m. changeEach (picks (ToAt r Channel)) (relabelled SourceChannel) (listed m))
@@ -254,16 +254,16 @@ views-kept named s (Move r h) f p =
     rw (changed-as (to r m) EndList SourceList m, changed-as (to r m) Channel SourceChannel first)
     (by-test (to r m) (λ e. rw e) (λ e. rw (e, same-either))))
     (free f e (λ x. refl))
-views-kept named s (Heed b r) f p =
+views-kept s (Heed b r) f p =
     let e = Effects.heed-effect s f b r (Accepted.heed-fits s b r p) in
     views-anew f e (changeEach (picks (onChannel r b)) (relabelled EndList)) (rw relabels)
     (λ m. rw (changed-as (between r b m) Channel EndList m, same-either)) (free f e (λ x. refl))
-views-kept named s (Drain r q) f p = views-drain s f r q (Accepted.drain-fits s r q p)
-views-kept named s (Land r) f p =
+views-kept s (Drain r q) f p = views-drain s f r q (Accepted.drain-fits s r q p)
+views-kept s (Land r) f p =
     let e = Effects.land-effect s f r (Accepted.land-fits s r p) in
     views-anew f e (changeEach (picks (ToAt r SourceList)) (relabelled EndList)) (rw relabels)
     (λ m. rw (changed-as (to r m) SourceList EndList m, same-either)) (free f e (λ x. refl))
-views-kept named s (Part a b) f p =
+views-kept s (Part a b) f p =
     let e = Effects.part-effect s f a b (Accepted.part-fits s a b p) in
     let listed : Rank → Rank → Message → Message = λ p q. changeEach (picks (onChannel p q)) (relabelled EndList) in
     views-anew f e (λ m. listed a b (listed b a m)) (rw (relabels, relabels, map-map))
@@ -273,9 +273,9 @@ views-kept named s (Part a b) f p =
     (rw (and-comm (sameRank (m .receiver) b) (sameRank (m .sender) a))
     (by-test (between b a m) (λ e. rw (e, shift-again, same-either)) (λ e. rw e))))
     (free f e (λ x. refl))
-views-kept named s (End r) f p =
+views-kept s (End r) f p =
     let k = Accepted.end-fits s r p in
     views-still f (Effects.end-effect s f r k) refl (λ x. refl) (λ x. refl)
     (every-wider (λ m. not (to r m)) _ (λ m h. rw and-true h) (messages s)
     (none-passes (to r) (messages s) (none-of (select (to r) (messages s)) (k .nothing))))
-views-kept named s (Look r) f p = views-with s f (s .unread) (messages-fit s (f .mail)) (facts-order s f)
+views-kept s (Look r) f p = views-with s f (s .unread) (messages-fit s (f .mail)) (facts-order s f)
