@@ -27,14 +27,13 @@ use Rattle.record.specs.declared.Record.{Record}
 
 -- Lists of steps.
 
--- "Each step reads any log at any position"; the rank that a look would name is free
+-- "Each step reads any log at any position"
 pub record Reading : Type 0 where
   pub log : List ℕ
   pub at : ℕ
-  pub named : Rank
 
 abbrev pub stepAt : State → Reading → Outcome
-stepAt s x = step (x .named) s (x .log) (x .at)
+stepAt s x = step s (x .log) (x .at)
 
 -- "each step is lent the state that the one before left, and nobody else writes it meanwhile": the state that a list leaves
 abbrev pub after : State → List Reading → State

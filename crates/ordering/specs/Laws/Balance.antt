@@ -45,19 +45,19 @@ took-cons a b answer e es = by-test (isTake a b e) (λ t. rw t) (λ t. rw t)
 -- From a to b: a number of a message, and where a take answers it.
 module _ (a b : Rank) (f : Message → ℕ) (answer : Entry → ℕ) where
   -- what an accepted record takes, and behind it what is left, is what was there, and behind it what it sends
-  Balanced : (named : Rank) (s : State) (r : Record) → Type 0
-  Balanced named s r =
-      took a b answer (entry named r s ∷ []) ++ eachBetween f a b (coreStep r (core s)) ≡
-      eachBetween f a b (core s) ++ posted a b f s (entry named r s)
+  Balanced : (s : State) (r : Record) → Type 0
+  Balanced s r =
+      took a b answer (entry r s ∷ []) ++ eachBetween f a b (coreStep r (core s)) ≡
+      eachBetween f a b (core s) ++ posted a b f s (entry r s)
 
   -- a take answers the first number of its pair
   abbrev pub Answered : Type 0
-  Answered = (named : Rank) (s : State) → sound s ≡ true → TakeFits s b a
-      → answer (entry named (Take b a) s) ∷ eachBetween f a b (coreStep (Take b a) (core s)) ≡ eachBetween f a b (core s)
+  Answered = (s : State) → sound s ≡ true → TakeFits s b a
+      → answer (entry (Take b a) s) ∷ eachBetween f a b (coreStep (Take b a) (core s)) ≡ eachBetween f a b (core s)
 
-  send-balanced : (named : Rank) (s : State) (c d : Rank) (v : ℕ) → Balanced named s (Send c d v)
+  send-balanced : (s : State) (c d : Rank) (v : ℕ) → Balanced s (Send c d v)
   unfolding Balanced
-  send-balanced named s c d v =
+  send-balanced s c d v =
       rw (select-append, map-append)
       (by-test (sameRank c a)
       (λ e. by-test (sameRank d b) (λ h. rw (e, h, sameRank-eq c a e, sameRank-eq d b h)) (λ h. rw (e, h)))
@@ -65,36 +65,36 @@ module _ (a b : Rank) (f : Message → ℕ) (answer : Entry → ℕ) where
 
   module _ (answered : Answered) where
     -- A take takes the first of its own pair, and leaves every other pair's.
-    take-balanced : (named : Rank) (s : State) (d c : Rank) → sound s ≡ true → refusal s (Take d c) ≡ none → Balanced named s (Take d c)
+    take-balanced : (s : State) (d c : Rank) → sound s ≡ true → refusal s (Take d c) ≡ none → Balanced s (Take d c)
     unfolding Balanced apply
-    take-balanced named s d c sd p =
+    take-balanced s d c sd p =
         by-test (sameRank c a)
         (λ e. by-test (sameRank d b) (λ h. own (sameRank-eq c a e) (sameRank-eq d b h)) (λ h. rw (e, h) (other (rw (e, h)))))
         (λ e. rw e (other (rw e)))
       where
-        own : c ≡ a → d ≡ b → Balanced named s (Take d c)
+        own : c ≡ a → d ≡ b → Balanced s (Take d c)
         own ca db =
             rw (ca, db, sameRank-self a, sameRank-self b)
-            (answered named s sd (take-fits s b a (rw (ca, db) at p)) ∙ sym (append-nil _))
+            (answered s sd (take-fits s b a (rw (ca, db) at p)) ∙ sym (append-nil _))
 
         other : (sameRank c a && sameRank d b) ≡ false
             → eachBetween f a b (coreStep (Take d c) (core s)) ≡ eachBetween f a b (core s) ++ []
         other e = rw (append-nil, without-other (between a b) (between c d) (other-pair c d a b e) (core s .letters))
 
-    step-balanced : (named : Rank) (s : State) (r : Record) → sound s ≡ true → refusal s r ≡ none → Balanced named s r
+    step-balanced : (s : State) (r : Record) → sound s ≡ true → refusal s r ≡ none → Balanced s r
     unfolding Balanced
-    step-balanced named s (Start r h) sd p = sym (append-nil _)
-    step-balanced named s (Call c d) sd p = sym (append-nil _)
-    step-balanced named s (Route c d) sd p = sym (append-nil _)
-    step-balanced named s (Send c d v) sd p = send-balanced named s c d v
-    step-balanced named s (Take d c) sd p = take-balanced named s d c sd p
-    step-balanced named s (Move r h) sd p = sym (append-nil _)
-    step-balanced named s (Heed c r) sd p = sym (append-nil _)
-    step-balanced named s (Drain r q) sd p = sym (append-nil _)
-    step-balanced named s (Land r) sd p = sym (append-nil _)
-    step-balanced named s (Part c d) sd p = sym (append-nil _)
-    step-balanced named s (End r) sd p = sym (append-nil _)
-    step-balanced named s (Look r) sd p = sym (append-nil _)
+    step-balanced s (Start r h) sd p = sym (append-nil _)
+    step-balanced s (Call c d) sd p = sym (append-nil _)
+    step-balanced s (Route c d) sd p = sym (append-nil _)
+    step-balanced s (Send c d v) sd p = send-balanced s c d v
+    step-balanced s (Take d c) sd p = take-balanced s d c sd p
+    step-balanced s (Move r h) sd p = sym (append-nil _)
+    step-balanced s (Heed c r) sd p = sym (append-nil _)
+    step-balanced s (Drain r q) sd p = sym (append-nil _)
+    step-balanced s (Land r) sd p = sym (append-nil _)
+    step-balanced s (Part c d) sd p = sym (append-nil _)
+    step-balanced s (End r) sd p = sym (append-nil _)
+    step-balanced s (Look r) sd p = sym (append-nil _)
 
 -- Two balances, one after the other.
 balances-join : (t u v w x y z : List ℕ) → t ++ w ≡ v ++ y → u ++ x ≡ w ++ z → t ++ u ++ x ≡ v ++ (y ++ z)
@@ -104,8 +104,8 @@ balances-join t u v w x y z e f =
 -- what the sends of a list of entries add, from a state on: nothing where there are none, and what one entry sends stands in front
 pub record Adds (a b : Rank) (f : Message → ℕ) (new : State → List Entry → List ℕ) : Type 0 where
   pub none-new : (s : State) → new s [] ≡ []
-  pub one-new : (named : Rank) (s : State) (r : Record) (es : List Entry) → sound s ≡ true → refusal s r ≡ none
-      → new s (entry named r s ∷ es) ≡ posted a b f s (entry named r s) ++ new (apply named r s .state) es
+  pub one-new : (s : State) (r : Record) (es : List Entry) → sound s ≡ true → refusal s r ≡ none
+      → new s (entry r s ∷ es) ≡ posted a b f s (entry r s) ++ new (apply r s .state) es
 
 module _ (a b : Rank) (f : Message → ℕ) (answer : Entry → ℕ) (new : State → List Entry → List ℕ)
     (answered : Answered a b f answer) (adds : Adds a b f new) where
@@ -115,16 +115,16 @@ module _ (a b : Rank) (f : Message → ℕ) (answer : Entry → ℕ) (new : Stat
       took a b answer es ++ map f (placeOrder (Between a b) (messages end)) ≡ eachBetween f a b (core s) ++ new s es
 
   step-balances : (s : State) (x : Reading) (r : Record) (next : ℕ) → sound s ≡ true → decode (x .log) (x .at) ≡ Whole r next
-      → refusal s r ≡ none → (es : List Entry) (end : State) → Balances (apply (x .named) r s .state) es end
-      → Balances s (entry (x .named) r s ∷ es) end
+      → refusal s r ≡ none → (es : List Entry) (end : State) → Balances (apply r s .state) es end
+      → Balances s (entry r s ∷ es) end
   unfolding Balanced
   step-balances s x r next h reads p es end rest =
-      let e = entry (x .named) r s in
-      let s′ = apply (x .named) r s .state in
+      let e = entry r s in
+      let s′ = apply r s .state in
       let here : took a b answer (e ∷ []) ++ eachBetween f a b (core s′) ≡ eachBetween f a b (core s) ++ posted a b f s e =
-      ap (λ (c : Core). took a b answer (e ∷ []) ++ eachBetween f a b c) (core-step (x .named) s r h p) ∙
-      step-balanced a b f answer answered (x .named) s r h p in
-      rw (took-cons a b answer e es, adds .one-new (x .named) s r es h p)
+      ap (λ (c : Core). took a b answer (e ∷ []) ++ eachBetween f a b c) (core-step s r h p) ∙
+      step-balanced a b f answer answered s r h p in
+      rw (took-cons a b answer e es, adds .one-new s r es h p)
       (balances-join (took a b answer (e ∷ [])) (took a b answer es) (eachBetween f a b (core s)) (eachBetween f a b (core s′))
       (map f (placeOrder (Between a b) (messages end))) (posted a b f s e) (new s′ es) here rest)
 

@@ -14,11 +14,11 @@ pub first-half : FirstHalf
 unfolding apply
 first-half xs a b ha hb =
     balances a b (λ m. m .value) (λ e. e .v1) (λ s es. sent a b es)
-    (λ named s h f. take-value s b a h f)
+    (λ s h f. take-value s b a h f)
     (record {
       none-new = λ s. refl;
-      one-new = λ named s r es h p.
-          let e = entry named r s in
+      one-new = λ s r es h p.
+          let e = entry r s in
           sent-cons a b e es ∙ ap (λ (l : List ℕ). l ++ sent a b es) (sym (map-id (sent a b (e ∷ []))));
     })
     (λ m. refl) ha hb xs fresh fresh-sound

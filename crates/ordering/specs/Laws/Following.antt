@@ -105,23 +105,23 @@ module _
         sound q ≡ true →
         refusal q r ≡ none →
         Leads moving r then →
-        Following inBytes then (apply (x .named) r q .state) five takes c →
+        Following inBytes then (apply r q .state) five takes c →
         Following
         inBytes
         moving
         q
-        (fiveKinds (entry (x .named) r q ∷ []) ++ five)
-        (λ a b. taken a b (entry (x .named) r q ∷ []) ++ takes a b)
+        (fiveKinds (entry r q ∷ []) ++ five)
+        (λ a b. taken a b (entry r q ∷ []) ++ takes a b)
         c
     step-follows bytes reads h p leads f =
-        let e = entry (x .named) r q in
-        let es = accepted (apply (x .named) r q .state) (f .list) in
+        let e = entry r q in
+        let es = accepted (apply r q .state) (f .list) in
         let enters = carried-enters q x (f .list) r next h reads p in
         let leaves = carried-leaves q x (f .list) r next h reads p in
         record {
           list = x ∷ f .list;
           bytes = λ t. both (bytes t) (f .bytes t);
-          all-accepted = rw (step-accepted (x .named) q (x .log) (x .at) r next h reads p) (f .all-accepted);
+          all-accepted = rw (step-accepted q (x .log) (x .at) r next h reads p) (f .all-accepted);
           moves-unbroken = ap (λ (l : List Entry). unbroken moving (records l)) enters ∙ leads (records es) ∙ f .moves-unbroken;
           same-five = ap fiveKinds enters ∙ five-cons e es ∙ ap (λ (l : List Record). fiveKinds (e ∷ []) ++ l) (f .same-five);
           same-taken =

@@ -35,11 +35,11 @@ module _ (a b : Rank) (ha : a .0 < ranks) (hb : b .0 < ranks) where
   sends e = length (sent a b (e ∷ []))
 
   -- An accepted record counts what it sends.
-  step-counted : (named : Rank) (s : State) (r : Record) → sound s ≡ true → refusal s r ≡ none
-      → sentBetween a b (apply named r s .state) ≡ sentBetween a b s + sends (entry named r s)
-  step-counted named s r h p = ap (λ (c : Core). sentAt a b (c .sent)) (core-step named s r h p) ∙ of-kind r p
+  step-counted : (s : State) (r : Record) → sound s ≡ true → refusal s r ≡ none
+      → sentBetween a b (apply r s .state) ≡ sentBetween a b s + sends (entry r s)
+  step-counted s r h p = ap (λ (c : Core). sentAt a b (c .sent)) (core-step s r h p) ∙ of-kind r p
     where
-      of-kind : (r : Record) → refusal s r ≡ none → sentAt a b (coreStep r (core s) .sent) ≡ sentBetween a b s + sends (entry named r s)
+      of-kind : (r : Record) → refusal s r ≡ none → sentAt a b (coreStep r (core s) .sent) ≡ sentBetween a b s + sends (entry r s)
       of-kind (Start r h) p = omega arith
       of-kind (Call c d) p = omega arith
       of-kind (Route c d) p = omega arith
@@ -65,8 +65,8 @@ module _ (a b : Rank) (ha : a .0 < ranks) (hb : b .0 < ranks) where
       along (λ s es end. sentBetween a b end ≡ sentBetween a b s + length (sent a b es))
       (λ s h. omega arith)
       (λ s x r next h reads p es end rest.
-      rw (sent-cons a b (entry (x .named) r s) es, length-append)
-      (omega (arith, rest, step-counted (x .named) s r h p)))
+      rw (sent-cons a b (entry r s) es, length-append)
+      (omega (arith, rest, step-counted s r h p)))
 
   -- the numbers that a list of entries sends, from a state on
   abbrev numbersSent : State → List Entry → List ℕ
@@ -78,13 +78,13 @@ module _ (a b : Rank) (ha : a .0 < ranks) (hb : b .0 < ranks) where
   next-number s e = by-test (isSend a b e) (λ t. rw t) (λ t. rw t)
 
   -- And behind it the others go on.
-  goes-on : (named : Rank) (s : State) (r : Record) (es : List Entry) → sound s ≡ true → refusal s r ≡ none
-      → numbersSent s (entry named r s ∷ es)
-      ≡ posted a b (λ m. m .sequence) s (entry named r s) ++ numbersSent (apply named r s .state) es
-  goes-on named s r es h p =
-      let e = entry named r s in
+  goes-on : (s : State) (r : Record) (es : List Entry) → sound s ≡ true → refusal s r ≡ none
+      → numbersSent s (entry r s ∷ es)
+      ≡ posted a b (λ m. m .sequence) s (entry r s) ++ numbersSent (apply r s .state) es
+  goes-on s r es h p =
+      let e = entry r s in
       let k = sentBetween a b s + 1 in
-      let on : sentBetween a b (apply named r s .state) + 1 ≡ k + sends e = omega (arith, step-counted named s r h p) in
+      let on : sentBetween a b (apply r s .state) + 1 ≡ k + sends e = omega (arith, step-counted s r h p) in
       rw (sent-cons a b e es, length-append, next-number s e, on) (sym (upFrom-append k (sends e) (length (sent a b es))))
 
   numbers-add : Adds a b (λ m. m .sequence) numbersSent
@@ -101,7 +101,7 @@ numbered xs a b ha hb =
     omega (arith, none-sent, sends-counted a b ha hb xs fresh fresh-sound) in
     let whole : numbersTaken a b es ++ numbersUnread a b (after fresh xs) ≡ upFrom 1 (sentBetween a b (after fresh xs)) =
     balances a b (λ m. m .sequence) (λ e. e .v3) (numbersSent a b ha hb)
-    (λ named s h f. take-sequence s b a h f)
+    (λ s h f. take-sequence s b a h f)
     (numbers-add a b ha hb)
     (λ m. refl) ha hb xs fresh fresh-sound ∙
     rw (none-sent, counted) in

@@ -31,7 +31,7 @@ migrating-is-open r =
     along (λ s es end. isMigrating (status end r) ≡ openAfterAll r (isMigrating (status s r)) (records es))
     (λ s h. refl)
     (λ s x y next h reads p es end rest.
-    rest ∙ ap (λ (o : Bool). openAfterAll r o (records es)) (migrating-step (x .named) s y r h p))
+    rest ∙ ap (λ (o : Bool). openAfterAll r o (records es)) (migrating-step s y r h p))
 
 -- Nobody migrates in the fresh state.
 fresh-still : (r : Rank) → isMigrating (status fresh r) ≡ false

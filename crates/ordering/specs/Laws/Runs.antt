@@ -23,8 +23,8 @@ pub fresh-sound : sound fresh ≡ true
 fresh-sound = true-of (sound fresh) fresh-is-sound
 
 -- the entry of an accepted record
-abbrev pub entry : Rank → Record → State → Entry
-entry named r s = record { read = r; v1 = apply named r s .values .0; v3 = apply named r s .values .2 }
+abbrev pub entry : Record → State → Entry
+entry r s = record { read = r; v1 = apply r s .values .0; v3 = apply r s .values .2 }
 
 -- What one entry adds in front.
 pub sent-cons : (a b : Rank) (e : Entry) (es : List Entry) → sent a b (e ∷ es) ≡ sent a b (e ∷ []) ++ sent a b es
@@ -47,11 +47,11 @@ module _
     (reads : decode (x .log) (x .at) ≡ Whole r next)
     (p : refusal s r ≡ none)
   where
-    pub carried-enters : accepted s (x ∷ xs) ≡ entry (x .named) r s ∷ accepted (apply (x .named) r s .state) xs
-    carried-enters = rw (step-accepted (x .named) s (x .log) (x .at) r next h reads p, reads)
+    pub carried-enters : accepted s (x ∷ xs) ≡ entry r s ∷ accepted (apply r s .state) xs
+    carried-enters = rw (step-accepted s (x .log) (x .at) r next h reads p, reads)
 
-    pub carried-leaves : after s (x ∷ xs) ≡ after (apply (x .named) r s .state) xs
-    carried-leaves = rw (step-accepted (x .named) s (x .log) (x .at) r next h reads p)
+    pub carried-leaves : after s (x ∷ xs) ≡ after (apply r s .state) xs
+    carried-leaves = rw (step-accepted s (x .log) (x .at) r next h reads p)
 
 -- What holds of no steps, and of one step more in front, refused or accepted, holds of every list of steps from a sound state.
 module _
@@ -65,15 +65,15 @@ module _
     decode (x .log) (x .at) ≡ Whole r next →
     refusal s r ≡ none →
     (xs : List Reading) (es : List Entry) (end : State) →
-    P xs (apply (x .named) r s .state) es end →
-    P (x ∷ xs) s (entry (x .named) r s ∷ es) end)
+    P xs (apply r s .state) es end →
+    P (x ∷ xs) s (entry r s ∷ es) end)
   where
     pub along-readings : (xs : List Reading) (s : State) → sound s ≡ true → P xs s (accepted s xs) (after s xs)
     along-readings [] s h = no-steps s h
-    along-readings (x ∷ xs) s h = at (course (x .named) s (x .log) (x .at)) (along-readings xs)
+    along-readings (x ∷ xs) s h = at (course s (x .log) (x .at)) (along-readings xs)
       where
         at :
-            Course (x .named) s (x .log) (x .at) →
+            Course s (x .log) (x .at) →
             ((t : State) → sound t ≡ true → P xs t (accepted t xs) (after t xs)) →
             P (x ∷ xs) s (accepted s (x ∷ xs)) (after s (x ∷ xs))
         at (turned-away n t) rest =
@@ -82,9 +82,9 @@ module _
             subst₂ (P (x ∷ xs) s) (sym enters) (sym leaves) (one-refused x xs s (accepted s xs) (after s xs) (rest s h))
         at (carried-out r k reads p t) rest =
             let next = pastRecord (x .log) (x .at) in
-            let s′ = apply (x .named) r s .state in
+            let s′ = apply r s .state in
             subst₂ (P (x ∷ xs) s) (sym (carried-enters s x xs r next h reads p)) (sym (carried-leaves s x xs r next h reads p))
-            (one-accepted s x r next h reads p xs (accepted s′ xs) (after s′ xs) (rest s′ (sound-kept (x .named) s r h p)))
+            (one-accepted s x r next h reads p xs (accepted s′ xs) (after s′ xs) (rest s′ (sound-kept s r h p)))
 
 -- The same of the accepted steps alone.
 module _
@@ -96,8 +96,8 @@ module _
     decode (x .log) (x .at) ≡ Whole r next →
     refusal s r ≡ none →
     (es : List Entry) (end : State) →
-    P (apply (x .named) r s .state) es end →
-    P s (entry (x .named) r s ∷ es) end)
+    P (apply r s .state) es end →
+    P s (entry r s ∷ es) end)
   where
     pub along : (xs : List Reading) (s : State) → sound s ≡ true → P s (accepted s xs) (after s xs)
     along =

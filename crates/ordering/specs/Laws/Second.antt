@@ -70,14 +70,14 @@ step-followed :
     decode (x .log) (x .at) ≡ Whole r next →
     refusal s r ≡ none →
     (xs : List Reading) (es : List Entry) (end : State) →
-    Followed xs (apply (x .named) r s .state) es end →
-    Followed (x ∷ xs) s (entry (x .named) r s ∷ es) end
+    Followed xs (apply r s .state) es end →
+    Followed (x ∷ xs) s (entry r s ∷ es) end
 step-followed s x r next h reads p xs es end rest inBytes bytes q quiet same =
-    let e = entry (x .named) r s in
+    let e = entry r s in
     let now = stands s q x r next h quiet same reads p in
     let here : inBytes ≡ true → isBytes x ≡ true = λ t. both-left (isBytes x) (areBytes xs) (bytes t) in
     let later : inBytes ≡ true → areBytes xs ≡ true = λ t. both-right (isBytes x) (areBytes xs) (bytes t) in
-    let same′ = now .alike ∙ ap (coreStep r) same ∙ sym (core-step (x .named) s r h p) in
+    let same′ = now .alike ∙ ap (coreStep r) same ∙ sym (core-step s r h p) in
     rw (five-cons e es)
     (follows-as (λ a b. sym (taken-cons a b e es))
     (now .follows inBytes here (fiveKinds es) (λ a b. taken a b es) (core end) (rest inBytes later (now .then) (now .quiet) same′)))

@@ -53,7 +53,7 @@ module _ (s : State) (a b : Rank) (v : ℕ) (hs : sound s ≡ true) (p : refusal
   -- One route.
   module _ (x : State) (u : Vmid) (calling : Calling x a b u) (h : sound x ≡ true) (same : core x ≡ core s) where
     routed : State
-    routed = apply (rank 0) (Route a b) x .state
+    routed = apply (Route a b) x .state
 
     routes : refusal x (Route a b) ≡ none
     routes = route-before s a b v p x (same-standings same) u calling
@@ -63,11 +63,11 @@ module _ (s : State) (a b : Rank) (v : ℕ) (hs : sound s ≡ true) (p : refusal
 
     routed-sound : sound routed ≡ true
     unfolding routed
-    routed-sound = sound-kept (rank 0) x (Route a b) h routes
+    routed-sound = sound-kept x (Route a b) h routes
 
     routed-alike : core routed ≡ core s
     unfolding routed
-    routed-alike = core-step (rank 0) x (Route a b) h routes ∙ same
+    routed-alike = core-step x (Route a b) h routes ∙ same
 
     routed-follows :
         (inBytes : Bool) (five : List Record) (takes : Rank → Rank → List ℕ) (c : Core) →
@@ -126,21 +126,21 @@ module _ (s : State) (a b : Rank) (v : ℕ) (hs : sound s ≡ true) (p : refusal
   unfolding apply decode recordOf
   send-stands q x next quiet same reads =
       let calls = call-before s a b v p q (same-standings same) (quiet .calm) in
-      let called = apply (rank 0) (Call a b) q .state in
-      let called-sound = sound-kept (rank 0) q (Call a b) (quiet .is-sound) calls in
+      let called = apply (Call a b) q .state in
+      let called-sound = sound-kept q (Call a b) (quiet .is-sound) calls in
       let calling : Calling called a b (location q a b) = call-calm q a b (quiet .calm) (two .first) in
-      let w = way called (location q a b) calling called-sound (core-step (rank 0) q (Call a b) (quiet .is-sound) calls ∙ same) in
+      let w = way called (location q a b) calling called-sound (core-step q (Call a b) (quiet .is-sound) calls ∙ same) in
       let sends = send-again s a b v p (w .then) (same-standings (w .alike)) (w .joined) (w .alike) (w .is-sound) hs in
-      let sent = apply (x .named) (Send a b v) (w .then) .state in
-      let sent-sound = sound-kept (x .named) (w .then) (Send a b v) (w .is-sound) sends in
+      let sent = apply (Send a b v) (w .then) .state in
+      let sent-sound = sound-kept (w .then) (Send a b v) (w .is-sound) sends in
       let sent-joined : Joined sent a b = send-calm (w .then) a b v (w .joined) in
       let sent-core : core sent ≡ coreStep (Send a b v) (core s) =
-      core-step (x .named) (w .then) (Send a b v) (w .is-sound) sends ∙ ap (coreStep (Send a b v)) (w .alike) in
+      core-step (w .then) (Send a b v) (w .is-sound) sends ∙ ap (coreStep (Send a b v)) (w .alike) in
       let parts = part-behind s a b v p sent (same-standings sent-core) sent-joined in
       record {
-        then = apply (rank 0) (Part a b) sent .state;
-        quiet = quiet-after (rank 0) sent (Part a b) sent-sound parts (part-calm sent a b sent-joined (two .first) (two .second));
-        alike = core-step (rank 0) sent (Part a b) sent-sound parts ∙ sent-core ∙ ap (coreStep (Send a b v)) (sym same);
+        then = apply (Part a b) sent .state;
+        quiet = quiet-after sent (Part a b) sent-sound parts (part-calm sent a b sent-joined (two .first) (two .second));
+        alike = core-step sent (Part a b) sent-sound parts ∙ sent-core ∙ ap (coreStep (Send a b v)) (sym same);
         follows =
             λ inBytes bytes fs ts c f.
             step-follows q (ofTwo Kind.call a b) (Call a b) 3 (λ t. named-in-bytes Kind.call refl) refl (quiet .is-sound) calls (λ l. refl)

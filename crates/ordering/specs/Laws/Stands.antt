@@ -32,10 +32,10 @@ use Rattle.ordering.specs.Laws.Runs.{entry}
 
 -- a log of one record, read at its start, that names one rank, or two
 abbrev pub ofOne : ℕ → Rank → Reading
-ofOne kind r = record { log = kind ∷ r .0 ∷ []; at = 0; named = rank 0 }
+ofOne kind r = record { log = kind ∷ r .0 ∷ []; at = 0 }
 
 abbrev pub ofTwo : ℕ → Rank → Rank → Reading
-ofTwo kind a b = record { log = kind ∷ a .0 ∷ b .0 ∷ []; at = 0; named = rank 0 }
+ofTwo kind a b = record { log = kind ∷ a .0 ∷ b .0 ∷ []; at = 0 }
 
 -- Such logs are bytes.
 rank-is-byte : (r : Rank) → r .0 < ranks → isByte (r .0) ≡ true
@@ -62,8 +62,8 @@ pub record Standing (s q : State) (x : Reading) (r : Record) : Type 0 where
       inBytes
       none
       q
-      (fiveKinds (entry (x .named) r s ∷ []) ++ five)
-      (λ a b. taken a b (entry (x .named) r s ∷ []) ++ takes a b)
+      (fiveKinds (entry r s ∷ []) ++ five)
+      (λ a b. taken a b (entry r s ∷ []) ++ takes a b)
       c
 
 -- Nothing stands for a record that leaves the core and is none of the five.
@@ -71,8 +71,8 @@ pub nothing-stands :
     (s q : State) (x : Reading) (r : Record) →
     Quiet q →
     coreStep r (core q) ≡ core q →
-    fiveKinds (entry (x .named) r s ∷ []) ≡ [] →
-    ((a b : Rank) → taken a b (entry (x .named) r s ∷ []) ≡ []) →
+    fiveKinds (entry r s ∷ []) ≡ [] →
+    ((a b : Rank) → taken a b (entry r s ∷ []) ≡ []) →
     Standing s q x r
 nothing-stands s q x r quiet same five takes =
     record {
@@ -84,12 +84,12 @@ nothing-stands s q x r quiet same five takes =
 
 -- A state that is calm behind an accepted record is quiet.
 pub quiet-after :
-    (named : Rank) (q : State) (r : Record) →
+    (q : State) (r : Record) →
     sound q ≡ true →
     refusal q r ≡ none →
-    AllQuiet (apply named r q .state) →
-    Quiet (apply named r q .state)
-quiet-after named q r h p calm = record { is-sound = sound-kept named q r h p; calm = calm }
+    AllQuiet (apply r q .state) →
+    Quiet (apply r q .state)
+quiet-after q r h p calm = record { is-sound = sound-kept q r h p; calm = calm }
 
 module _ (s q : State) (x : Reading) (next : ℕ) (quiet : Quiet q) (same : core q ≡ core s) where
   -- The record stands as it is, where it is accepted from q, leaves all calm, and takes what it takes from s.
@@ -98,14 +98,14 @@ module _ (s q : State) (x : Reading) (next : ℕ) (quiet : Quiet q) (same : core
       decode (x .log) (x .at) ≡ Whole r next →
       refusal q r ≡ none →
       Leads none r none →
-      ((a b : Rank) → taken a b (entry (x .named) r q ∷ []) ≡ taken a b (entry (x .named) r s ∷ [])) →
-      AllQuiet (apply (x .named) r q .state) →
+      ((a b : Rank) → taken a b (entry r q ∷ []) ≡ taken a b (entry r s ∷ [])) →
+      AllQuiet (apply r q .state) →
       Standing s q x r
   itself-stands r reads p leads takes calm =
       record {
-        then = apply (x .named) r q .state;
-        quiet = quiet-after (x .named) q r (quiet .is-sound) p calm;
-        alike = core-step (x .named) q r (quiet .is-sound) p;
+        then = apply r q .state;
+        quiet = quiet-after q r (quiet .is-sound) p calm;
+        alike = core-step q r (quiet .is-sound) p;
         follows =
             λ inBytes bytes fs ts c f.
             follows-as (λ a b. ap (λ (l : List ℕ). l ++ ts a b) (takes a b))
@@ -155,14 +155,14 @@ module _ (s q : State) (x : Reading) (next : ℕ) (quiet : Quiet q) (same : core
   move-stands r h reads p =
       let p′ = move-again s q same (quiet .calm) r h p in
       let hr = move-fits s r h p .one .in-range in
-      let q′ = apply (x .named) (Move r h) q .state in
-      let h′ = sound-kept (x .named) q (Move r h) (quiet .is-sound) p′ in
+      let q′ = apply (Move r h) q .state in
+      let h′ = sound-kept q (Move r h) (quiet .is-sound) p′ in
       let moving : Moving q′ r = move-calm q r h (quiet .calm) hr in
       let lands = land-after q′ r hr moving in
       record {
-        then = apply (rank 0) (Land r) q′ .state;
-        quiet = quiet-after (rank 0) q′ (Land r) h′ lands (land-calm q′ r moving hr);
-        alike = core-step (rank 0) q′ (Land r) h′ lands ∙ core-step (x .named) q (Move r h) (quiet .is-sound) p′;
+        then = apply (Land r) q′ .state;
+        quiet = quiet-after q′ (Land r) h′ lands (land-calm q′ r moving hr);
+        alike = core-step q′ (Land r) h′ lands ∙ core-step q (Move r h) (quiet .is-sound) p′;
         follows =
             λ inBytes bytes fs ts c f.
             step-follows {then = some r} q x (Move r h) next bytes reads (quiet .is-sound) p′ (λ l. refl)

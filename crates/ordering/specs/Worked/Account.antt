@@ -35,7 +35,7 @@ ahead x o t =
     }
 
 abbrev soundStepAt : State → Reading → Outcome
-soundStepAt s x = stepSound (x .named) s (x .log) (x .at)
+soundStepAt s x = stepSound s (x .log) (x .at)
 
 -- an account in one pass, without the test of soundness
 abbrev soundAccount : State → List Reading → Account
@@ -48,10 +48,10 @@ sound-account s [] h = refl
 sound-account s (x ∷ xs) h =
     ap
     (ahead x (stepAt s x))
-    (sound-account (stepAt s x .state) xs (step-keeps-sound (x .named) s (x .log) (x .at) h)) ∙
+    (sound-account (stepAt s x .state) xs (step-keeps-sound s (x .log) (x .at) h)) ∙
     ap
     (λ (o : Outcome). ahead x o (soundAccount (o .state) xs))
-    (step-of-sound (x .named) s (x .log) (x .at) h)
+    (step-of-sound s (x .log) (x .at) h)
 
 -- the account from a sound state; where this is opened, all that a step computes with is open
 unfoldable pub computedFrom : State → List Reading → Account

@@ -75,7 +75,7 @@ early =
     (Kind.call ∷ 3 ∷ 1 ∷ []) ∷
     (Kind.route ∷ 3 ∷ 1 ∷ []) ∷
     (Kind.send ∷ 3 ∷ 1 ∷ 6 ∷ 0 ∷ 0 ∷ 0 ∷ []) ∷ []) ++
-    record { log = Kind.look ∷ 1 ∷ []; at = 0; named = rank 3 } ∷ []
+    record { log = Kind.look ∷ 1 ∷ []; at = 0 } ∷ []
 
 abbrev early-result : Result
 early-result =

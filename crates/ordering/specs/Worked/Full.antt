@@ -81,7 +81,7 @@ one-more : (n : ℕ) → n < limit → sound (laden n) ≡ true → stepAt (lade
 unfolding computed decode recordOf apply send
 one-more n room h =
     ap (λ (o : Outcome). o .state)
-    (step-accepted (rank 0) (laden n) (sending .log) 0 (Send (rank 0) (rank 1) 7) 7 h refl
+    (step-accepted (laden n) (sending .log) 0 (Send (rank 0) (rank 1) 7) 7 h refl
     (send-accepted (laden n) (rank 0) (rank 1) 7 (send-fits n room))) ∙
     ap (λ (u : AfterAppend). withUnread (u .unread) joined) (appends (laden n .unread) (rank 0) (rank 1) Channel 7 room) ∙
     ap (λ (l : List Message). withUnread (mail (n + 1) l) joined) (one-message n)
@@ -91,7 +91,7 @@ fills : (k n : ℕ) → n + k ≤ limit → sound (laden n) ≡ true → after (
 fills zero n room h = ap laden (omega arith)
 fills (suc k) n room h =
     let more = one-more n (omega arith) h in
-    let kept = rw more at (step-keeps-sound (rank 0) (laden n) (sending .log) 0 h) in
+    let kept = rw more at (step-keeps-sound (laden n) (sending .log) 0 h) in
     let sum : n + 1 + k ≡ n + suc k = omega arith in
     ap (λ (s : State). after s (replicate k sending)) more ∙ fills k (n + 1) (omega arith) kept ∙ ap laden sum
 
@@ -136,8 +136,8 @@ full-sound = sound-after (filling limit) fresh fresh-sound
 pub one-more-is-refused : stepAt (after fresh (filling limit)) sending .answer ≡ Refused Full
 unfolding computedFrom computed upFrom
 one-more-is-refused =
-    ap (λ (o : Outcome). o .answer) (step-of-sound (rank 0) (after fresh (filling limit)) (sending .log) 0 full-sound) ∙
-    ap (λ (s : State). opened (rank 0) s (sending .log) 0 .answer) full-leaves
+    ap (λ (o : Outcome). o .answer) (step-of-sound (after fresh (filling limit)) (sending .log) 0 full-sound) ∙
+    ap (λ (s : State). opened s (sending .log) 0 .answer) full-leaves
 
 -- a part, a move and a landing, of which the first and the last count all 1,024
 abbrev carrying : List Entry

@@ -41,7 +41,7 @@ log =
 -- a record at each position
 abbrev pub listing : List Reading
 listing =
-    map (λ (n : ℕ). record { log = log; at = n; named = rank 0 })
+    map (λ (n : ℕ). record { log = log; at = n })
     (0 ∷ 3 ∷ 6 ∷ 9 ∷ 12 ∷ 19 ∷ 22 ∷ 29 ∷ 32 ∷ 35 ∷ 38 ∷ 41 ∷ 48 ∷ 50 ∷ 53 ∷ 56 ∷ 59 ∷ 61 ∷ [])
 
 -- What the list comes to: rank 1 runs where it moved to, and the two messages that it has not taken are in its list and on its lane.

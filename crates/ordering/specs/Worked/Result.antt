@@ -119,7 +119,7 @@ second xs ys r q there here bytes all moves five took holds processes =
 
 -- a record that is a whole log; an accepted record with its v1 and v3; and a process with no call
 abbrev pub whole : List ℕ → Reading
-whole log = record { log = log; at = 0; named = rank 0 }
+whole log = record { log = log; at = 0 }
 
 abbrev pub did : Record → ℕ → ℕ → Entry
 did r v1 v3 = record { read = r; v1 = v1; v3 = v3 }
