@@ -1,4 +1,5 @@
 // The panel maker's program with a step of a lent state: the state stands in a variable, which is lent to the step.
+ghost use mathlib.Core.Path.{_≡_};
 ghost use Rattle.answer.specs.Answer.{NeverEighteen};
 ghost use Rattle.broker.specs.State.{view};
 ghost use Rattle.protocol.specs.Step.{step};

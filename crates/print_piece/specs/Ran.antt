@@ -10,7 +10,6 @@ use Rattle.record.specs.Record.{decode}
 use Rattle.protocol.specs.Sound.{sound}
 use Rattle.broker.specs.State.{State}
 use Rattle.record.specs.declared.Decoded.the-variants.{Unknown, Cut}
-use Rattle.desk.specs.Look.{nameFor}
 use Rattle.print_run.specs.Printed.{linesOf}
 use Rattle.print_run.specs.Run.{Answered, Came}
 use Rattle.print_run.specs.Wholes.{wholes}
@@ -20,7 +19,7 @@ use Rattle.print_piece.specs.declared.Stop.the-variants.{PageFull, KindU
 -- so many whole records of a piece are run from a state: the state, the position and the answers are those of the definition, and the
 -- state is sound
 pub record Ran (s : State) (piece : List ℕ) (base steps : ℕ) (state : State) (at : ℕ) (answers : List Answered) : Type 0 where
-  pub came : _≡_ {A = Came} (record { state = state; at = at; answers = answers }) (wholes nameFor base steps s piece 0)
+  pub came : _≡_ {A = Came} (record { state = state; at = at; answers = answers }) (wholes base steps s piece 0)
   pub counted : length answers ≡ steps
   pub stays : sound state ≡ true
 

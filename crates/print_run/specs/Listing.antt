@@ -10,7 +10,6 @@ use Rattle.ordering.specs.Laws.Runs.{fresh-sound}
 use Rattle.print_run.specs.Laws.Pieces.{printed-in-pieces}
 use Rattle.print_run.specs.Pieces.{Turn, allBytes, inPieces}
 use Rattle.print_run.specs.Printed.{textOf, printed}
-use Rattle.print_run.specs.Run.{Naming}
 use Rattle.print_run.specs.Shown.{shown, prints-shown}
 
 abbrev pub text : List ℕ
@@ -37,13 +36,13 @@ text =
     "pair 0 1 0 0 1 1" ∷
     "end" ∷ [])
 
--- The listing's log prints the listing, whatever rank a look would name.
-pub listing-prints : (named : Naming) → printed named fresh log ≡ text
+-- The listing's log prints the listing.
+pub listing-prints : printed fresh log ≡ text
 unfolding shown
-listing-prints named = prints-shown named log
+listing-prints = prints-shown log
 
 -- It does so in whatever pieces it is read.
 pub listing-in-pieces :
-    (named : Naming) (ts : List Turn) → allBytes ts ≡ log → textOf (inPieces named 0 fresh [] ts) ≡ text
-listing-in-pieces named ts e =
-    printed-in-pieces named ts fresh fresh-sound ∙ ap (printed named fresh) e ∙ listing-prints named
+    (ts : List Turn) → allBytes ts ≡ log → textOf (inPieces 0 fresh [] ts) ≡ text
+listing-in-pieces ts e =
+    printed-in-pieces ts fresh fresh-sound ∙ ap (printed fresh) e ∙ listing-prints

@@ -4,7 +4,7 @@ use mathlib.Core.List.{List, [], _∷_, _++_}
 use Prim.Native.Nat.{ℕ, _+_}
 use lib.ListN.{drop}
 use Rattle.broker.specs.State.{State}
-use Rattle.print_run.specs.Run.{Came, Naming, behind}
+use Rattle.print_run.specs.Run.{Came, behind}
 use Rattle.print_run.specs.Wholes.{wholes, runFrom}
 
 -- a turn of a program: the bytes that it reads, and how many whole records at most it runs of all that it then holds
@@ -19,9 +19,9 @@ allBytes (t ∷ ts) = t .bytes ++ allBytes ts
 
 -- a run in turns: of what is held and what is read, whole records are run, and what is left of it is held; at the input's end all that
 -- is held is run
-abbrev pub inPieces : Naming → ℕ → State → List ℕ → List Turn → Came
-inPieces named base s held [] = runFrom named base s held
-inPieces named base s held (t ∷ ts) =
+abbrev pub inPieces : ℕ → State → List ℕ → List Turn → Came
+inPieces base s held [] = runFrom base s held
+inPieces base s held (t ∷ ts) =
     let log = held ++ t .bytes in
-    let w = wholes named base (t .most) s log 0 in
-    behind (w .answers) (inPieces named (base + w .at) (w .state) (drop (w .at) log) ts)
+    let w = wholes base (t .most) s log 0 in
+    behind (w .answers) (inPieces (base + w .at) (w .state) (drop (w .at) log) ts)

@@ -5,16 +5,10 @@ use mathlib.Core.List.{List, [], _∷_, _++_}
 use Prim.Native.Nat.{ℕ, zero, suc}
 use lib.Dec.{leb, ltb}
 use lib.ListN.{length, getD}
-use Rattle.transit.specs.declared.Rank.{Rank}
 use Rattle.answer.specs.Answer.{number}
-use Rattle.transit.specs.Message.{rank}
-use Rattle.record.specs.Record.{decode}
 use Rattle.broker.specs.State.{State}
 use Rattle.protocol.specs.Step.{Outcome, step}
 use Rattle.answer.specs.declared.Answer.{Answer}
-use Rattle.record.specs.declared.Decoded.{Decoded}
-use Rattle.record.specs.declared.Decoded.the-variants.{Whole, Unknown, Cut}
-use Rattle.record.specs.declared.Record.{Record}
 
 -- a step of a run: its position in the input, the kind that stands there, and the answer
 pub record Answered : Type 0 where
@@ -36,21 +30,7 @@ standing s at = record { state = s; at = at; answers = [] }
 abbrev pub behind : List Answered → Came → Came
 behind steps c = record { state = c .state; at = c .at; answers = steps ++ c .answers }
 
--- a choice of the rank that each look names
-abbrev pub Naming : Type 0
-Naming = State → Record → Rank
-
--- the rank that it gives for what stands at a position; where that is no record, the rank says nothing
-abbrev pub nameIn : Naming → State → Decoded → Rank
-nameIn named s (Whole r next) = named s r
-nameIn named s Unknown = rank 0
-nameIn named s Cut = rank 0
-
--- a step of a run
-abbrev pub stepBy : Naming → State → List ℕ → ℕ → Outcome
-stepBy named s log at = step (nameIn named s (decode log at)) s log at
-
--- what the run keeps of it
+-- what a run keeps of a step
 abbrev pub answered : List ℕ → ℕ → Outcome → Answered
 answered log at o = record { at = at; kind = getD log at 0; answer = o .answer }
 
@@ -59,11 +39,11 @@ abbrev pub stops : Answer → Bool
 stops a = leb 1 (number a) && leb (number a) 3
 
 -- "It stops at the log's end .. or after a 2 or 3": a run of so many steps at most
-unfoldable pub runLog : Naming → ℕ → State → List ℕ → ℕ → Came
-runLog named zero s log at = standing s at
-runLog named (suc n) s log at =
-    let o = stepBy named s log at in
+unfoldable pub runLog : ℕ → State → List ℕ → ℕ → Came
+runLog zero s log at = standing s at
+runLog (suc n) s log at =
+    let o = step s log at in
     cond (ltb at (length log))
     (behind (answered log at o ∷ [])
-    (cond (stops (o .answer)) (standing (o .state) (o .next)) (runLog named n (o .state) log (o .next))))
+    (cond (stops (o .answer)) (standing (o .state) (o .next)) (runLog n (o .state) log (o .next))))
     (standing s at)

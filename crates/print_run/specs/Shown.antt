@@ -9,15 +9,14 @@ use Rattle.broker.specs.State.{fresh}
 use Rattle.ordering.specs.Laws.Runs.{fresh-sound}
 use Rattle.print_run.specs.Laws.Pieces.{printed-is-left}
 use Rattle.print_run.specs.Printed.{printed}
-use Rattle.print_run.specs.Run.{Naming}
 use Rattle.print_run.specs.Wholes.{closing, wholes, runFrom, left}
 
 -- all that is left to print of a log; where this is opened, all that it computes with is open
-unfoldable pub shown : Naming → List ℕ → List ℕ
+unfoldable pub shown : List ℕ → List ℕ
 unfolding opened decimal recordLine pairLine pairLines wholes closing runFrom
-shown named log = left named 0 fresh log
+shown log = left 0 fresh log
 
 -- It is what the run of the log prints.
-pub prints-shown : (named : Naming) (log : List ℕ) → printed named fresh log ≡ shown named log
+pub prints-shown : (log : List ℕ) → printed fresh log ≡ shown log
 unfolding shown
-prints-shown named log = printed-is-left named fresh log fresh-sound
+prints-shown log = printed-is-left fresh log fresh-sound

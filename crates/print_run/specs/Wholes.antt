@@ -7,16 +7,15 @@ use lib.Dec.{ltb}
 use lib.ListN.{length, getD}
 use Rattle.record.specs.Record.{isKind, decode}
 use Rattle.broker.specs.State.{State}
-use Rattle.protocol.specs.Step.{Settlement, settle}
+use Rattle.protocol.specs.Step.{settle}
 use Rattle.answer.specs.declared.Answer.{Answer}
 use Rattle.answer.specs.declared.Answer.the-variants.{Refused}
 use Rattle.answer.specs.declared.Refusal.{Refusal}
 use Rattle.answer.specs.declared.Refusal.the-variants.{UnknownKind, CutShort}
 use Rattle.record.specs.declared.Decoded.{Decoded}
 use Rattle.record.specs.declared.Decoded.the-variants.{Whole, Unknown, Cut}
-use Rattle.record.specs.declared.Record.{Record}
 use Rattle.print_run.specs.Printed.{textOf}
-use Rattle.print_run.specs.Run.{Answered, Came, Naming, standing, behind}
+use Rattle.print_run.specs.Run.{Answered, Came, standing, behind}
 
 -- a whole record stands at a position
 abbrev pub isWhole : Decoded → Bool
@@ -48,31 +47,26 @@ abbrev pub ended : ℕ → List ℕ → Came → Came
 ended base log c =
     record { state = c .state; at = base + c .at; answers = c .answers ++ closing base log (c .at) }
 
-module _ (named : Naming) where
-  -- what a record that was read whole comes to
-  abbrev pub settled : State → Record → Settlement
-  settled s r = settle (named s r) r s
+-- a whole record, and what follows it; nothing where none stands
+abbrev pub onRead : ℕ → State → List ℕ → ℕ → (State → ℕ → Came) → Decoded → Came
+onRead base s log at more (Whole r next) =
+    behind (answeredAt base log at (settle r s .answer) ∷ []) (more (settle r s .state) next)
+onRead base s log at more Unknown = standing s at
+onRead base s log at more Cut = standing s at
 
-  -- a whole record, and what follows it; nothing where none stands
-  abbrev pub onRead : ℕ → State → List ℕ → ℕ → (State → ℕ → Came) → Decoded → Came
-  onRead base s log at more (Whole r next) =
-      behind (answeredAt base log at (settled s r .answer) ∷ []) (more (settled s r .state) next)
-  onRead base s log at more Unknown = standing s at
-  onRead base s log at more Cut = standing s at
+-- the whole records from a position on, so many at most
+unfoldable pub wholes : ℕ → ℕ → State → List ℕ → ℕ → Came
+wholes base zero s log at = standing s at
+wholes base (suc n) s log at = onRead base s log at (λ t k. wholes base n t log k) (decode log at)
 
-  -- the whole records from a position on, so many at most
-  unfoldable pub wholes : ℕ → ℕ → State → List ℕ → ℕ → Came
-  wholes base zero s log at = standing s at
-  wholes base (suc n) s log at = onRead base s log at (λ t k. wholes base n t log k) (decode log at)
+-- all of them: no log has more records than bytes
+abbrev pub allWholes : ℕ → State → List ℕ → ℕ → Came
+allWholes base s log at = wholes base (length log) s log at
 
-  -- all of them: no log has more records than bytes
-  abbrev pub allWholes : ℕ → State → List ℕ → ℕ → Came
-  allWholes base s log at = wholes base (length log) s log at
+-- the run of a log to its end, in one pass
+unfoldable pub runFrom : ℕ → State → List ℕ → Came
+runFrom base s log = ended base log (allWholes base s log 0)
 
-  -- the run of a log to its end, in one pass
-  unfoldable pub runFrom : ℕ → State → List ℕ → Came
-  runFrom base s log = ended base log (allWholes base s log 0)
-
-  -- what is left to print, of a log that is left to run
-  abbrev pub left : ℕ → State → List ℕ → List ℕ
-  left base s log = textOf (runFrom base s log)
+-- what is left to print, of a log that is left to run
+abbrev pub left : ℕ → State → List ℕ → List ℕ
+left base s log = textOf (runFrom base s log)

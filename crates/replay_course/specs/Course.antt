@@ -6,7 +6,7 @@ use mathlib.Core.Path.{_≡_}
 use Prim.Native.Nat.{ℕ, _+_, _≤_, _<_}
 use lib.ListN.{length, take}
 use Rattle.broker.specs.State.{State, fresh}
-use Rattle.print_run.specs.Printed.{Prints}
+use Rattle.print_run.specs.Printed.{printed}
 use Rattle.print_course.specs.Course.{Course, RunSoFar}
 use Rattle.print_turn.specs.Turn.{bufferRoom, farthest, longest, MayFollow}
 use Rattle.replay_stage.specs.declared.Ending.the-variants.{Over, Unwritten, Unread, TooLong}
@@ -25,7 +25,7 @@ pub record Stands (s : State) (base : ℕ) (held : List ℕ) (done : Bool) : Typ
 pub record Finished (s : State) (base : ℕ) (held : List ℕ) (done : Bool) : Type 0 where
   pub read : List ℕ
   pub written : List ℕ
-  pub prints : (more : List ℕ) → MayFollow done more → Prints fresh (read ++ more) written
+  pub prints : (more : List ℕ) → MayFollow done more → written ≡ printed fresh (read ++ more)
   pub runs : RunSoFar read s base held
 
 -- what holds by what is next: a turn or a read goes on in a course, and a read short of the input's end and behind less than a record; the

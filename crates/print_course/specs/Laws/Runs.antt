@@ -9,7 +9,6 @@ use native.Mathlib.Omega.{arith}
 use lib.ListN.{length, drop}
 use lib.Seq.{drop-append-le, drop-drop}
 use Rattle.broker.specs.State.{State, fresh}
-use Rattle.desk.specs.Look.{nameFor}
 use Rattle.ordering.specs.Laws.Runs.{fresh-sound}
 use Rattle.print_piece.specs.Laws.Ran.{ran-none, ran-on}
 use Rattle.print_piece.specs.Ran.{Ran}
@@ -22,7 +21,7 @@ use Rattle.print_turn.specs.declared.Turned.{Turned}
 module _ {read : List ℕ} {s : State} {base : ℕ} {held : List ℕ} (x : RunSoFar read s base held) where
   -- What is run stands in what was read.
   within : base ≤ length read
-  within = rw (← x .ran .came) at (run-within nameFor 0 read (x .steps) fresh 0 (omega arith))
+  within = rw (← x .ran .came) at (run-within 0 read (x .steps) fresh 0 (omega arith))
 
   -- More is read, and nothing is run.
   more-read : (bytes : List ℕ) → RunSoFar (read ++ bytes) s base (held ++ bytes)

@@ -14,28 +14,27 @@ use Rattle.protocol.specs.Laws.Restart.{never-eighteen}
 use Rattle.record.specs.Record.{decode}
 use Rattle.protocol.specs.Sound.{sound}
 use Rattle.broker.specs.State.{State}
-use Rattle.protocol.specs.Step.{Settlement}
+use Rattle.protocol.specs.Step.{Settlement, settle}
 use Rattle.record.specs.declared.Decoded.the-variants.{Whole}
 use Rattle.record.specs.declared.Record.{Record}
-use Rattle.desk.specs.Look.{nameFor}
 use Rattle.print_run.specs.Laws.Steps.{settled-sound}
 use Rattle.print_run.specs.Laws.Text.{lines-append}
 use Rattle.print_run.specs.Laws.Wholes.{one-last, run-within, in-a-row, wholes-dropped}
 use Rattle.print_run.specs.Laws.Window.{stands}
 use Rattle.print_piece.specs.Ran.{NeverEighteenIn, Ran, RanSome}
 use Rattle.print_run.specs.Run.{Answered}
-use Rattle.print_run.specs.Wholes.{answeredAt, settled, wholes}
+use Rattle.print_run.specs.Wholes.{answeredAt, wholes}
 
 -- One whole record more is run.
 ran-more : {s : State} {piece : List ℕ} {base steps : ℕ} {state : State} {at : ℕ} {answers : List Answered} →
-    Ran s piece base steps state at answers → (r : Record) (next : ℕ) → decode piece at ≡ Whole r next → let x = settled nameFor state r in
+    Ran s piece base steps state at answers → (r : Record) (next : ℕ) → decode piece at ≡ Whole r next → let x = settle r state in
     Ran s piece base (suc steps) (x .state) next (answers ++ answeredAt base piece at (x .answer) ∷ [])
 ran-more {s} {piece} {base} {steps} {state} {at} {answers} i r next e =
-    let more = rw (← i .came) at (one-last nameFor base piece steps s 0 r next) in
+    let more = rw (← i .came) at (one-last base piece steps s 0 r next) in
     record {
       came = sym (more e);
       counted = length-append answers _ ∙ omega (arith, i .counted);
-      stays = settled-sound nameFor state piece at (i .stays) r next e;
+      stays = settled-sound state piece at (i .stays) r next e;
     }
 
 -- Before the first record nothing is run, and nothing is on the page.
@@ -65,7 +64,7 @@ never-in (a ∷ rest) = (never-eighteen (a .answer), never-in rest)
 -- A whole record more is run where the page has room for its line.
 pub some-more : {s : State} {piece : List ℕ} {base room : ℕ} {state : State} {at used steps : ℕ} {page : List ℕ} →
     RanSome s piece base room state at used steps page → (r : Record) (next : ℕ) → decode piece at ≡ Whole r next → (x : Settlement) →
-    (sound state ≡ true → x ≡ settled nameFor state r) → (after : List ℕ) (end : ℕ) →
+    (sound state ≡ true → x ≡ settle r state) → (after : List ℕ) (end : ℕ) →
     Put recordRoom page used (recordLine (base + at) (getD piece at 0) (x .answer)) after end → used + recordRoom ≤ length page →
     RanSome s piece base room (x .state) next end (suc steps) after
 some-more {piece = piece} {base} {at = at} i r next e x f after end p h =
@@ -89,9 +88,9 @@ pub ran-on : {s : State} {piece : List ℕ} {base steps : ℕ} {state : State} {
     Ran state (drop at piece ++ more) (base + at) steps' state' at' answers' →
     Ran s (piece ++ more) base (steps + steps') state' (at + at') (answers ++ answers')
 ran-on {s} {piece} {base} {steps} {state} {at} {answers} i more {steps'} {answers' = answers'} j =
-    let room : at ≤ length piece = rw (← i .came) at (run-within nameFor base piece steps s 0 (omega arith)) in
-    let first = rw (← i .came, i .counted) at (in-a-row nameFor base piece more steps' steps s 0) in
-    let later = wholes-dropped nameFor base (piece ++ more) at (omega (arith, length-append piece more)) steps' state 0 in
+    let room : at ≤ length piece = rw (← i .came) at (run-within base piece steps s 0 (omega arith)) in
+    let first = rw (← i .came, i .counted) at (in-a-row base piece more steps' steps s 0) in
+    let later = wholes-dropped base (piece ++ more) at (omega (arith, length-append piece more)) steps' state 0 in
     record {
       came = sym (first ∙ rw (rw (add-zero at, drop-append-le at piece more room) at later, ← j .came));
       counted = length-append answers answers' ∙ omega (arith, i .counted, j .counted);

@@ -17,7 +17,6 @@ use Rattle.record.specs.Record.{isKind, bodies, bodyLength, decode}
 use Rattle.broker.specs.State.{State}
 use Rattle.record.specs.declared.Decoded.{Decoded}
 use Rattle.record.specs.declared.Decoded.the-variants.{Whole, Unknown, Cut}
-use Rattle.desk.specs.Look.{nameFor}
 use Rattle.print_buffer.specs.Buffer.{Kept}
 use Rattle.print_last.specs.Last.{endingRoom}
 use Rattle.print_run.specs.Laws.Pieces.{piece-first, left-over, unknown-ends}
@@ -59,9 +58,9 @@ unmoved k Cut same none = same
 piece-shows :
     {s : State} {piece : List ℕ} {base steps : ℕ} {state : State} {at : ℕ} {answers : List Answered} →
     Ran s piece base steps state at answers →
-    (more : List ℕ) → left nameFor base s (piece ++ more) ≡ linesOf answers ++ left nameFor (base + at) state (drop at piece ++ more)
+    (more : List ℕ) → left base s (piece ++ more) ≡ linesOf answers ++ left (base + at) state (drop at piece ++ more)
 piece-shows {s} {piece} {base} {steps} ran more =
-    ap textOf (rw (← ran .came) at (piece-first nameFor base steps s piece more)) ∙ rw text-behind
+    ap textOf (rw (← ran .came) at (piece-first base steps s piece more)) ∙ rw text-behind
 
 -- Behind a piece whose rest goes to the buffer's front, on a page that has room for the end of a run.
 module _
@@ -141,31 +140,31 @@ module _
 
 -- what is left to print behind a turn, of a log that is left to run
 abbrev pub leftBehind : Next → ℕ → State → List ℕ → List ℕ
-leftBehind Again base s log = left nameFor base s log
-leftBehind Read base s log = left nameFor base s log
+leftBehind Again base s log = left base s log
+leftBehind Read base s log = left base s log
 leftBehind End base s log = []
-leftBehind TooLong base s log = left nameFor base s log
+leftBehind TooLong base s log = left base s log
 
 -- Where a run is over, nothing that may follow is a part of it.
 nothing-follows : (base : ℕ) (s : State) (held : List ℕ) (done : Bool) → Over done (decode held 0) → (more : List ℕ) →
-    MayFollow done more → left nameFor base s (held ++ more) ≡ linesOf (closing base held 0) ++ lastLines s
-nothing-follows base s held true over more may = rw (may refl, append-nil) (left-over nameFor base s held (over .0))
+    MayFollow done more → left base s (held ++ more) ≡ linesOf (closing base held 0) ++ lastLines s
+nothing-follows base s held true over more may = rw (may refl, append-nil) (left-over base s held (over .0))
 nothing-follows base s held false over more may =
-    unknown-ends nameFor base s held more (over .1 refl) ∙ left-over nameFor base s held (over .0)
+    unknown-ends base s held more (over .1 refl) ∙ left-over base s held (over .0)
 
 -- What was left to print, whatever follows, is what the page shows and then what is left behind the turn.
 module _ {s : State} {held : List ℕ} {base : ℕ} {state : State} {held' : List ℕ} {r : Turned} {page : List ℕ} {done : Bool}
     (x : Shows s held base state held' r page) (over : r .next ≡ End → Over done (decode held' 0)) (more : List ℕ)
     (may : MayFollow done more) where
   behind : (next : Next) → r .next ≡ next →
-      left nameFor (r .base) state (held' ++ more) ≡
+      left (r .base) state (held' ++ more) ≡
       endBehind next (r .base) state held' ++ leftBehind next (r .base) state (held' ++ more)
   behind Again e = refl
   behind Read e = refl
   behind End e = rw append-nil (nothing-follows (r .base) state held' done (over e) more may)
   behind TooLong e = refl
 
-  pub shows-prints : left nameFor base s (held ++ more) ≡ take (r .used) page ++ leftBehind (r .next) (r .base) state (held' ++ more)
+  pub shows-prints : left base s (held ++ more) ≡ take (r .used) page ++ leftBehind (r .next) (r .base) state (held' ++ more)
   shows-prints =
       piece-shows (x .ran) more ∙
       rw (← x .further, ← x .rest, x .shown, append-assoc (linesOf (x .answers)))
