@@ -1,13 +1,11 @@
 -- What the contracts of the entries say alike. Assumes nothing.
 use mathlib.Core.Bool.{Bool, true, false}
 use mathlib.Core.List.{List, [], _∷_, _++_}
-use mathlib.Core.Option.{none}
 use mathlib.Core.Path.{_≡_}
 use Prim.Native.Nat.{ℕ, _+_, _*_, _<_, _≤_}
 use lib.ListN.{length, take, drop}
 use Rattle.answer.specs.declared.Answer.{Answer}
 use Rattle.broker.specs.State.{State}
-use Rattle.desk.specs.Look.{nameFor}
 use Rattle.generator.specs.declared.Made.{Made}
 use Rattle.generator.specs.declared.Made.the-variants.{Written, SeedZero, TooShort}
 use Rattle.generator_record.specs.MadeUp.{madeLog, logLeaves}
@@ -16,22 +14,15 @@ use Rattle.print_run.specs.Run.{Answered, Came}
 use Rattle.print_run.specs.Wholes.{isWhole, closing, wholes}
 use Rattle.print_turn.specs.declared.Next.the-variants.{Again, Read, End, TooLong}
 use Rattle.print_turn.specs.declared.Turned.{Turned}
-use Rattle.protocol.specs.Checks.{refusal}
-use Rattle.protocol.specs.Messages.{unreadBetween}
 use Rattle.protocol.specs.Sound.{sound}
 use Rattle.protocol.specs.Step.{Outcome, step}
 use Rattle.record.specs.Record.{decode}
-use Rattle.record.specs.declared.Decoded.the-variants.{Whole, Unknown, Cut}
-use Rattle.record.specs.declared.Record.the-variants.{Look}
-use Rattle.transit.specs.declared.Rank.{Rank}
+use Rattle.record.specs.declared.Decoded.the-variants.{Unknown, Cut}
 
--- "ties the answer, next position and whole state afterwards to the step definitions, refusals too, by equality; look's rank is the only
--- loose value, bound to have something unread"
+-- "ties the answer, next position and whole state afterwards to the step definitions, refusals too, by equality"
 abbrev pub ExactStep : State → List ℕ → ℕ → Answer → ℕ → State → Type 0
 ExactStep s log at answer next state =
-    (named : Rank) ×
-    ((r : Rank) (past : ℕ) → decode log at ≡ Whole (Look r) past → refusal s (Look r) ≡ none → 0 < unreadBetween named r s) ×
-    (_≡_ {A = Outcome} (record { answer = answer; next = next; state = state }) (step named s log at))
+    _≡_ {A = Outcome} (record { answer = answer; next = next; state = state }) (step s log at)
 
 -- each answer of a run's steps is such
 abbrev pub EachAnswer : (Answer → Type 0) → List Answered → Type 0
@@ -56,7 +47,7 @@ pub record TurnOfARun
   -- stands behind them, and the page shows their lines and, where the run is over, how it ends
   pub runs : sound s ≡ true →
       (steps : ℕ) × (at : ℕ) × (answers : List Answered) ×
-      (_≡_ {A = Came} (record { state = state; at = at; answers = answers }) (wholes nameFor base steps s held 0)) ×
+      (_≡_ {A = Came} (record { state = state; at = at; answers = answers }) (wholes base steps s held 0)) ×
       (r .base ≡ base + at) ×
       (held' ≡ drop at held) ×
       ((r .next ≡ End → ⊥) → take (r .used) page ≡ linesOf answers) ×

@@ -19,7 +19,6 @@ use Rattle.answer.specs.declared.Refusal.the-variants.{Unsound, UnknownKind, Cu
 use Rattle.base.specs.Lists.{every, select, upFrom}
 use Rattle.broker.specs.Names
 use Rattle.broker.specs.State.{State, fresh, status, request, drawnOn, messages, nextVmid}
-use Rattle.desk.specs.Look.{nameFor}
 use Rattle.generator.specs.Answer.{makes}
 use Rattle.generator.specs.Laws.Answer.{equal-seeds, in-two-parts}
 use Rattle.generator.specs.Laws.Read.{made-holds}
@@ -57,7 +56,7 @@ use Rattle.print_run.specs.Laws.Steps.{same-state}
 use Rattle.print_run.specs.Listing.{listing-prints, listing-in-pieces}
 use Rattle.print_run.specs.Pieces.{Turn, allBytes, inPieces}
 use Rattle.print_run.specs.Printed.{printed, textOf}
-use Rattle.print_run.specs.Run.{Answered, Came, Naming, runLog}
+use Rattle.print_run.specs.Run.{Answered, Came, runLog}
 use Rattle.print_run.specs.Shown.{shown}
 use Rattle.print_run.specs.Wholes.{isWhole}
 use Rattle.print_course.specs.Course.{Course, RunSoFar, ShortOfEnd}
@@ -79,7 +78,7 @@ use Rattle.protocol.specs.Laws.Restart.{
   restart-accepted,
   restart-carried-out,
 }
-use Rattle.protocol.specs.Laws.Step.{step-refused, step-accepted, step-of-sound, step-keeps-sound}
+use Rattle.protocol.specs.Laws.Step.{step-refused, step-accepted, step-of-sound, step-of-unsound, step-keeps-sound}
 use Rattle.protocol.specs.Laws.Values.{values-hold}
 use Rattle.protocol.specs.Messages.{unreadBetween, sentBetween}
 use Rattle.protocol.specs.Migrate
@@ -99,7 +98,7 @@ use Rattle.record.specs.Laws.Record.{at-end, no-kind, cut-short, whole, value-b
 use Rattle.record.specs.Record.{isKind, bodyLength, recordOf, decode, valueOf}
 use Rattle.record.specs.declared.Decoded.the-variants.{Whole, Unknown}
 use Rattle.record.specs.declared.Record.{Record}
-use Rattle.record.specs.declared.Record.the-variants.{Move, Look}
+use Rattle.record.specs.declared.Record.the-variants.{Move}
 use Rattle.transit.specs.Message.{ranks, placeOrder}
 use Rattle.transit.specs.Laws.Operations.{full-stays}
 use Rattle.transit.specs.Unread.{Unread, limit, mostSent, appended}
@@ -138,31 +137,30 @@ limits-of-a-made-up-pass = (refl, refl, refl)
 
 -- Demand 2: every step gives exactly the answer, the next position and the next state of paper 01.
 
--- A step of any state, at any position of any log; `named` is the rank that a look names.
-module _ (named : Rank) (s : State) (log : List ℕ) (at : ℕ) where
+-- A step of any state, at any position of any log.
+module _ (s : State) (log : List ℕ) (at : ℕ) where
   -- "1: the lent state is unsound"
-  pub unsound-is-1 : sound s ≡ false → step named s log at ≡ record { answer = Refused Unsound; next = at; state = s }
-  unfolding step
-  unsound-is-1 h = rw h
+  pub unsound-is-1 : sound s ≡ false → step s log at ≡ record { answer = Refused Unsound; next = at; state = s }
+  unsound-is-1 = step-of-unsound s log at
 
   module _ (ok : sound s ≡ true) where
     -- "in a sound state at the log's end 3 is given, and no kind is read"
-    pub end-is-3 : length log ≤ at → step named s log at ≡ record { answer = Refused CutShort; next = at; state = s }
+    pub end-is-3 : length log ≤ at → step s log at ≡ record { answer = Refused CutShort; next = at; state = s }
     unfolding stepSound
-    end-is-3 h = rw (step-of-sound named s log at ok, at-end log at h)
+    end-is-3 h = rw (step-of-sound s log at ok, at-end log at h)
 
     -- "2: kind is not 01 to 0C"
     pub no-kind-is-2 : at < length log → (leb 1 (getD log at 0) && leb (getD log at 0) 12) ≡ false →
-        step named s log at ≡ record { answer = Refused UnknownKind; next = at; state = s }
+        step s log at ≡ record { answer = Refused UnknownKind; next = at; state = s }
     unfolding stepSound
-    no-kind-is-2 h k = rw (step-of-sound named s log at ok, no-kind log at h k)
+    no-kind-is-2 h k = rw (step-of-sound s log at ok, no-kind log at h k)
 
     module _ (inside : at < length log) (known : (leb 1 (getD log at 0) && leb (getD log at 0) 12) ≡ true) where
       -- "3: .. body cut short"
       pub cut-is-3 : length log < at + 1 + bodyLength (getD log at 0) →
-          step named s log at ≡ record { answer = Refused CutShort; next = at; state = s }
+          step s log at ≡ record { answer = Refused CutShort; next = at; state = s }
       unfolding stepSound
-      cut-is-3 h = rw (step-of-sound named s log at ok, cut-short log at inside known h)
+      cut-is-3 h = rw (step-of-sound s log at ok, cut-short log at inside known h)
 
       module _ (long : at + 1 + bodyLength (getD log at 0) ≤ length log) where
         abbrev read : Record
@@ -170,22 +168,22 @@ module _ (named : Rank) (s : State) (log : List ℕ) (at : ℕ) where
 
         -- Where no row of the table applies, the record is carried out.
         pub no-row-accepts : every (λ (c : Check). not (c .given s read)) checks ≡ true →
-            step named s log at ≡
+            step s log at ≡
             record {
-              answer = Accepted (apply named read s .values);
+              answer = Accepted (apply read s .values);
               next = at + 1 + bodyLength (getD log at 0);
-              state = apply named read s .state;
+              state = apply read s .state;
             }
         unfolding refusal
         no-row-accepts h =
-            step-accepted named s log at read (at + 1 + bodyLength (getD log at 0)) ok (whole log at inside known long)
+            step-accepted s log at read (at + 1 + bodyLength (getD log at 0)) ok (whole log at inside known long)
             (none-applies s read checks h)
 
         -- "The lowest number that applies is given"; "A refusal leaves the state lent for a step unchanged"; "The position passes the
         -- record"
         pub first-row-refuses : (before later : List Check) (row : Check) → checks ≡ before ++ row ∷ later →
             every (λ (c : Check). not (c .given s read)) before ≡ true → row .given s read ≡ true →
-            step named s log at ≡
+            step s log at ≡
             record { answer = Refused (row .refusal); next = at + 1 + bodyLength (getD log at 0); state = s }
         unfolding stepSound settle refusal
         first-row-refuses before later row stands passed applies =
@@ -199,7 +197,7 @@ module _ (named : Rank) (s : State) (log : List ℕ) (at : ℕ) where
               applies = applies;
               gives = refl;
             }) in
-            rw (step-of-sound named s log at ok, whole log at inside known long, given)
+            rw (step-of-sound s log at ok, whole log at inside known long, given)
 
   -- "every refusal comes in just the listed case": a check's refusal is given only where its row is the first that applies
   pub refused-by-the-first : (r : Record) (n : Refusal) → refusal s r ≡ some n →
@@ -211,18 +209,18 @@ module _ (named : Rank) (s : State) (log : List ℕ) (at : ℕ) where
       (f .before, f .row, f .after, f .stands, none-applied s r (f .before) (f .passed), f .applies, f .gives)
 
   -- Demand 1: "A refusal leaves the state lent for a step unchanged, v1 to v3 zero."
-  pub refusal-keeps-the-state : (n : Refusal) → step named s log at .answer ≡ Refused n →
-      (step named s log at .state ≡ s) × (values (step named s log at .answer) ≡ 0 ∷ 0 ∷ 0 ∷ [])
-  refusal-keeps-the-state n e = let kept = step-refused named s log at n e in (kept .state-kept, kept .zeros)
+  pub refusal-keeps-the-state : (n : Refusal) → step s log at .answer ≡ Refused n →
+      (step s log at .state ≡ s) × (values (step s log at .answer) ≡ 0 ∷ 0 ∷ 0 ∷ [])
+  refusal-keeps-the-state n e = let kept = step-refused s log at n e in (kept .state-kept, kept .zeros)
 
   -- "Every step keeps a sound state sound."
-  pub step-stays-sound : sound s ≡ true → sound (step named s log at .state) ≡ true
-  step-stays-sound = step-keeps-sound named s log at
+  pub step-stays-sound : sound s ≡ true → sound (step s log at .state) ≡ true
+  step-stays-sound = step-keeps-sound s log at
 
   -- Paper 02, change 2: "Number 18 is given no more"
-  pub eighteen-is-given-no-more : number (step named s log at .answer) ≡ 18 → ⊥
+  pub eighteen-is-given-no-more : number (step s log at .answer) ≡ 18 → ⊥
   unfolding NeverEighteen
-  eighteen-is-given-no-more = never-eighteen (step named s log at .answer)
+  eighteen-is-given-no-more = never-eighteen (step s log at .answer)
 
 -- The rows of the table, in the order in which they decide.
 pub rows-of-the-table :
@@ -263,7 +261,7 @@ pub record OrderingClaim (xs : List Reading) (end : State) : Type 0 where
       (numbers-taken ++ numbers-unread ≡ upFrom 1 (sentBetween a b end)) ×
       (sentBetween a b end ≡ length (sent a b (accepted fresh xs)))
 
--- Over every list of steps: each reads any log at any position, and any rank may be named by its looks.
+-- Over every list of steps: each reads any log at any position.
 module _ (xs : List Reading) where
   pub ordering-claim : OrderingClaim xs (after fresh xs)
   ordering-claim =
@@ -298,8 +296,8 @@ pub restart : (s : State) (r : Rank) (v : Vmid) → sound s ≡ true → r .0 < 
     (Names.sameVmid v (nextVmid s (v .0)) ≡ false) ×
     (Names.isOpenRequest (request s r) ≡ false → drawnOn s (v .0) < 65535 →
     (refusal s (Move r (v .0)) ≡ none) ×
-    ((named : Rank) (log : List ℕ) (at next : ℕ) → decode log at ≡ Whole (Move r (v .0)) next →
-    step named s log at ≡
+    ((log : List ℕ) (at next : ℕ) → decode log at ≡ Whole (Move r (v .0)) next →
+    step s log at ≡
     record { answer = Accepted (Migrate.move r (v .0) s .values); next = next; state = Migrate.move r (v .0) s .state }))
 restart s r v ok in-range runs = (
   restart-draws s r v ok in-range runs,
@@ -361,10 +359,9 @@ edges =
     join-lines : List String
     join-lines = "6 02 0 1 1 0" ∷ "9 03 0 0 1 1" ∷ []
 
--- They print so, whatever rank a look would name.
-pub edges-print : (named : Naming) → map (λ (r : Run). printed named fresh (r .log)) edges ≡ map (λ (r : Run). asciiLines (r .lines)) edges
+pub edges-print : map (λ (r : Run). printed fresh (r .log)) edges ≡ map (λ (r : Run). asciiLines (r .lines)) edges
 unfolding shown
-edges-print named = all-shown named edges
+edges-print = all-shown edges
 
 -- The same cases step by step, each with what holds of the state at its end (`A` to `J` of protocol/specs/Edges.antt).
 pub edges-step-by-step :
@@ -440,9 +437,11 @@ kinds-of-steps =
     "38 04 0 1 0 0" ∷ "45 04 0 2 0 0" ∷ "52 0A 0 2 1 0" ∷ "pair 0 1 0 0 2 0" ∷ "pair 1 0 0 0 2 0" ∷ "end" ∷ []) ∷
     -- 0B end: "r is ended."
     (three ++ end 2 ++ look 2) prints (three-lines ++ "9 0B 0 0 0 0" ∷ "11 0C 9 0 0 0" ∷ "end" ∷ []) ∷
-    -- 0C look: "v1 a rank with a message unread by r"
-    (three ++ call 2 1 ++ route 2 1 ++ send 2 1 10 ++ look 1) prints
-    (three-lines ++ "9 02 0 5 2 0" ∷ "12 03 0 0 5 2" ∷ "15 04 0 1 0 0" ∷ "22 0C 0 2 0 0" ∷ "pair 2 1 0 0 0 1" ∷ "end" ∷ []) ∷ []
+    -- Paper 02, change 6, 0C look: "Look now names the sender of the message sent first of all those unread by r, whatever its place.": of
+    -- rank 2, though rank 0 is lower and its younger message at a lower place, and though rank 0 has an older message unread
+    (three ++ join ++ call 2 1 ++ route 2 1 ++ send 1 0 5 ++ send 2 1 10 ++ send 0 1 20 ++ part 0 1 ++ look 1 ++ take 1 2 ++ look 1) prints
+    (three-lines ++ join-lines ++ "15 02 0 5 2 0" ∷ "18 03 0 0 5 2" ∷ "21 04 0 1 0 0" ∷ "28 04 0 1 0 0" ∷ "35 04 0 1 0 0" ∷
+    "42 0A 0 1 1 0" ∷ "45 0C 0 2 0 0" ∷ "47 05 0 10 0 1" ∷ "50 0C 0 0 0 0" ∷ "pair 0 1 0 0 1 0" ∷ "pair 1 0 0 0 1 0" ∷ "end" ∷ []) ∷ []
   where
     three : List ℕ
     three = start 0 5 ++ start 1 5 ++ start 2 6
@@ -457,9 +456,9 @@ kinds-of-steps =
     join-lines = "9 02 0 5 2 0" ∷ "12 03 0 0 5 2" ∷ []
 
 pub kinds-print :
-    map (λ (r : Run). printed nameFor fresh (r .log)) kinds-of-steps ≡ map (λ (r : Run). asciiLines (r .lines)) kinds-of-steps
+    map (λ (r : Run). printed fresh (r .log)) kinds-of-steps ≡ map (λ (r : Run). asciiLines (r .lines)) kinds-of-steps
 unfolding shown
-kinds-print = all-shown nameFor kinds-of-steps
+kinds-print = all-shown kinds-of-steps
 
 -- The same step by step, with more of the state at the end of each (protocol/specs/Values.antt).
 pub kinds-step-by-step :
@@ -495,42 +494,42 @@ listing =
     "29 07 0 0 0 0" ∷ "32 02 0 1 1 0" ∷ "35 03 0 1 2 1" ∷ "38 03 0 0 2 1" ∷ "41 04 0 3 0 0" ∷ "48 09 19 0 0 0" ∷
     "50 08 0 0 500 1" ∷ "53 08 0 0 501 2" ∷ "56 08 0 1 0 0" ∷ "59 09 0 2 0 0" ∷ "61 05 0 500 2 1" ∷ "pair 0 1 0 0 1 1" ∷ "end" ∷ [])
 
-pub listing-prints-so : (named : Naming) → printed named fresh (listing .log) ≡ asciiLines (listing .lines)
+pub listing-prints-so : printed fresh (listing .log) ≡ asciiLines (listing .lines)
 listing-prints-so = listing-prints
 
-pub listing-prints-so-in-any-pieces : (named : Naming) (ts : List Turn) → allBytes ts ≡ listing .log →
-    textOf (inPieces named 0 fresh [] ts) ≡ asciiLines (listing .lines)
+pub listing-prints-so-in-any-pieces : (ts : List Turn) → allBytes ts ≡ listing .log →
+    textOf (inPieces 0 fresh [] ts) ≡ asciiLines (listing .lines)
 listing-prints-so-in-any-pieces = listing-in-pieces
 
 -- "Input may be of any length, read through at most 65,536 bytes": a log that is read in pieces of any lengths, and of which any number of
 -- records is run before more is read, prints the run of the whole.
-pub printed-in-any-pieces : (named : Naming) (ts : List Turn) →
-    textOf (inPieces named 0 fresh [] ts) ≡ printed named fresh (allBytes ts)
-printed-in-any-pieces named ts = printed-in-pieces named ts fresh fresh-sound
+pub printed-in-any-pieces : (ts : List Turn) →
+    textOf (inPieces 0 fresh [] ts) ≡ printed fresh (allBytes ts)
+printed-in-any-pieces ts = printed-in-pieces ts fresh fresh-sound
 
 -- The steps that a run takes are a list of steps, and it leaves what the list leaves.
-pub run-is-a-list-of-steps : (named : Naming) (n : ℕ) (s : State) (log : List ℕ) (at : ℕ) →
-    (after s (readings named n s log at) ≡ runLog named n s log at .state) ×
-    (map (λ (x : Reading). x .at) (readings named n s log at) ≡ map (λ (a : Answered). a .at) (runLog named n s log at .answers))
+pub run-is-a-list-of-steps : (n : ℕ) (s : State) (log : List ℕ) (at : ℕ) →
+    (after s (readings n s log at) ≡ runLog n s log at .state) ×
+    (map (λ (x : Reading). x .at) (readings n s log at) ≡ map (λ (a : Answered). a .at) (runLog n s log at .answers))
 run-is-a-list-of-steps = readings-run
 
 -- Demand 3 of what a run leaves whose log comes in pieces of any lengths.
-pub ordering-claim-in-any-pieces : (named : Naming) (ts : List Turn) →
-    OrderingClaim (readings named (length (allBytes ts)) fresh (allBytes ts) 0) (inPieces named 0 fresh [] ts .state)
-ordering-claim-in-any-pieces named ts =
+pub ordering-claim-in-any-pieces : (ts : List Turn) →
+    OrderingClaim (readings (length (allBytes ts)) fresh (allBytes ts) 0) (inPieces 0 fresh [] ts .state)
+ordering-claim-in-any-pieces ts =
     let log = allBytes ts in
-    let in-pieces = ap (λ (c : Came). c .state) (sym (run-in-pieces named ts fresh fresh-sound)) in
-    let same = readings-run named (length log) fresh log 0 .0 ∙ in-pieces in
-    rw same at (ordering-claim (readings named (length log) fresh log 0))
+    let in-pieces = ap (λ (c : Came). c .state) (sym (run-in-pieces ts fresh fresh-sound)) in
+    let same = readings-run (length log) fresh log 0 .0 ∙ in-pieces in
+    rw same at (ordering-claim (readings (length log) fresh log 0))
 
 -- Demand 3 of what so many whole records of a log leave.
 leaves : {read : List ℕ} {s : State} {base : ℕ} {held : List ℕ} → RunSoFar read s base held →
-    (n : ℕ) × (after fresh (readings nameFor n fresh read 0) ≡ s) × (held ≡ drop base read) ×
-    OrderingClaim (readings nameFor n fresh read 0) s
+    (n : ℕ) × (after fresh (readings n fresh read 0) ≡ s) × (held ≡ drop base read) ×
+    OrderingClaim (readings n fresh read 0) s
 leaves {read} {s} x =
-    let xs = readings nameFor (x .steps) fresh read 0 in
+    let xs = readings (x .steps) fresh read 0 in
     let same : after fresh xs ≡ s =
-    readings-run nameFor (x .steps) fresh read 0 .0 ∙ same-state nameFor read (x .steps) fresh 0 fresh-sound ∙
+    readings-run (x .steps) fresh read 0 .0 ∙ same-state read (x .steps) fresh 0 fresh-sound ∙
     ap (λ (c : Came). c .state) (sym (x .ran .came)) in
     (x .steps, same, x .rest, rw same at (ordering-claim xs))
 
@@ -539,26 +538,20 @@ leaves {read} {s} x =
 module _ {read written : List ℕ} {s : State} {base : ℕ} {held : List ℕ} {done : Bool} (course : Course read written s base held done) where
   -- After any number of turns the state is the one that a list of steps of what was read leaves, what is held is the rest of it, and
   -- demand 3 holds of it.
-  pub program-keeps-the-order : (n : ℕ) × (after fresh (readings nameFor n fresh read 0) ≡ s) × (held ≡ drop base read) ×
-      OrderingClaim (readings nameFor n fresh read 0) s
+  pub program-keeps-the-order : (n : ℕ) × (after fresh (readings n fresh read 0) ≡ s) × (held ≡ drop base read) ×
+      OrderingClaim (readings n fresh read 0) s
   program-keeps-the-order = leaves (course-runs course)
 
   module _ {state : State} {held' : List ℕ} {r : Turned} {page : List ℕ} (shows : Shows s held base state held' r page) where
     -- The same behind one turn more, and so behind the last.
-    pub last-turn-keeps-the-order : (n : ℕ) × (after fresh (readings nameFor n fresh read 0) ≡ state) × (held' ≡ drop (r .base) read) ×
-        OrderingClaim (readings nameFor n fresh read 0) state
+    pub last-turn-keeps-the-order : (n : ℕ) × (after fresh (readings n fresh read 0) ≡ state) × (held' ≡ drop (r .base) read) ×
+        OrderingClaim (readings n fresh read 0) state
     last-turn-keeps-the-order = leaves (turn-runs (course-runs course) shows)
 
-    -- With the last turn all that is written is the printed run of all that was read, whatever follows it; "look's rank is tested for being
-    -- allowed".
+    -- With the last turn all that is written is the printed run of all that was read, whatever follows it.
     pub program-prints-the-run : r .next ≡ End → isWhole (decode held' 0) ≡ false → (done ≡ false → decode held' 0 ≡ Unknown) →
-        (more : List ℕ) → (done ≡ true → more ≡ []) →
-        (named : Naming) ×
-        ((t : State) (q : Rank) → refusal t (Look q) ≡ none → 0 < unreadBetween (named t (Look q)) q t) ×
-        (written ++ ListN.take (r .used) page ≡ printed named fresh (read ++ more))
-    program-prints-the-run e whole unknown more may =
-        let p = course-ends course shows e (whole, unknown) more may in
-        (p .named, λ t q passes. rw passes at (p .fits t (Look q)), p .same)
+        (more : List ℕ) → (done ≡ true → more ≡ []) → written ++ ListN.take (r .used) page ≡ printed fresh (read ++ more)
+    program-prints-the-run e whole unknown = course-ends course shows e (whole, unknown)
 
   -- The input is at its end only where a read gave nothing behind all that was read.
   pub end-of-input-is-an-empty-read : done ≡ true → ShortOfEnd read
@@ -604,23 +597,13 @@ what-replay-says = (refl, refl, refl, refl)
 module _ {at : Stage} {s : State} {buffer page : List ℕ} (runs : Runs at s buffer page) where
   pub replay-prints-the-run : at .then ≡ Then.Stop Ending.Over →
       (read : List ℕ) × (written : List ℕ) ×
-      ((more : List ℕ) → (at .done ≡ true → more ≡ []) →
-      (named : Naming) ×
-      ((t : State) (q : Rank) → refusal t (Look q) ≡ none → 0 < unreadBetween (named t (Look q)) q t) ×
-      (written ≡ printed named fresh (read ++ more))) ×
-      (n : ℕ) × (after fresh (readings nameFor n fresh read 0) ≡ s) × (ListN.take (at .held) buffer ≡ drop (at .base) read) ×
-      OrderingClaim (readings nameFor n fresh read 0) s
+      ((more : List ℕ) → (at .done ≡ true → more ≡ []) → written ≡ printed fresh (read ++ more)) ×
+      (n : ℕ) × (after fresh (readings n fresh read 0) ≡ s) × (ListN.take (at .held) buffer ≡ drop (at .base) read) ×
+      OrderingClaim (readings n fresh read 0) s
   replay-prints-the-run e =
       let over = runs-over runs e in
-      let end = leaves (over .runs) in (
-        over .read,
-        over .written,
-        λ more may. let p = over .prints more may in (p .named, λ t q passes. rw passes at (p .fits t (Look q)), p .same),
-        end .0,
-        end .1,
-        end .2,
-        end .3,
-      )
+      let end = leaves (over .runs) in
+      (over .read, over .written, over .prints, end .0, end .1, end .2, end .3)
 
   pub replay-stops-at-2^63 : at .then ≡ Then.Stop Ending.TooLong → 9223372036854775808 ≤ at .base
   replay-stops-at-2^63 = runs-too-long runs

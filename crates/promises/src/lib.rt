@@ -13,7 +13,6 @@ ghost use Rattle.broker.specs.declared.link.Connection.the-variants.{Closed};
 ghost use Rattle.broker.specs.declared.process.Request.the-variants.{Absent};
 ghost use Rattle.broker.specs.declared.process.Status.the-variants.{Unstarted};
 ghost use Rattle.desk.specs.Desk.{deskOf, Desk};
-ghost use Rattle.desk.specs.Look.{nameFor};
 ghost use Rattle.print_piece.specs.declared.Stop.the-variants.{PageFull, KindUnknown, RecordCut};
 ghost use Rattle.print_run.specs.Printed.{linesOf};
 ghost use Rattle.print_run.specs.Run.{Answered};
@@ -177,7 +176,7 @@ pub fn piece_of_a_run(
         (sound (deskOf (now (slots .entry)) (now (contents .entry)) (now (roster .entry))) ≡ true →
         (length answers ≡ r .steps) ×
         (record { state = deskOf (now (slots .exit)) (now (contents .exit)) (now (roster .exit)); at = r .at; answers = answers } ≡
-        wholes nameFor base (r .steps) (deskOf (now (slots .entry)) (now (contents .entry)) (now (roster .entry)))
+        wholes base (r .steps) (deskOf (now (slots .entry)) (now (contents .entry)) (now (roster .entry)))
         (now (piece .entry)) 0))) ⌝ }
     ensures inside { λ r. ⌜ (r .at ≤ length (now (piece .entry))) × (r .used ≤ length (now (page .exit))) ⌝ }
     ensures room { λ _. ⌜ length (now (page .exit)) ≡ length (now (page .entry)) ⌝ }
