@@ -10,3 +10,5 @@ pub mod Second
 pub mod Ordering
 pub mod Open
 pub mod Counts
+pub mod Oldest
+pub mod Served

@@ -69,6 +69,10 @@ between a b m = sameRank (m .sender) a && to b m
 abbrev pub relabelled : Place → Message → Message
 relabelled p m = message (m .sender) (m .receiver) p (m .value) (m .sequence)
 
+-- a message with its place forgotten: all are at one place
+abbrev pub letter : Message → Message
+letter m = relabelled EndList m
+
 -- the messages that a selection picks
 abbrev pub picks : Selection → Message → Bool
 picks (To r) m = to r m

@@ -10,7 +10,7 @@ use borrow.Author.Tests.{not-true}
 use lib.ListN.{length, getD, take, drop, length-append, length-take}
 use lib.Seq.{drop-cons, getD-take}
 use Rattle.base.specs.Lists.{select, tally, without, changeFirst, changeEach, every}
-use Rattle.base.specs.Laws.Tests.{by-test, both, both-left, both-right}
+use Rattle.base.specs.Laws.Tests.{by-test, both, both-left, both-right, not-both}
 
 module _ {A : Type 0} where
   -- A test that always passes, passes at every element.
@@ -146,6 +146,17 @@ module _ {A : Type 0} where
   without-head q (y ∷ l) x xs heads =
       by-test (q y) (λ e. let h = rw e at heads in rw e (cc)) (λ e. simp (e, without-head q l x xs (rw e at heads)))
 
+  -- The first to pass is the first to pass a narrower test that it passes.
+  pub first-narrower : (p q : A → Bool) → ((x : A) → q x ≡ true → p x ≡ true) → (l : List A) (x : A) (rest : List A)
+      → select p l ≡ x ∷ rest → q x ≡ true → (more : List A) × (select q l ≡ x ∷ more)
+  first-narrower p q within [] x rest first passes = let z : _≡_ {A = ℕ} 0 1 = cc in absurd (omega arith)
+  first-narrower p q within (y ∷ l) x rest first passes =
+      by-test (p y)
+      (λ e. let same : y ≡ x = head-eq-of-cons-eq (rw e at first) in (select q l, rw (same, passes)))
+      (λ e. by-test (q y)
+      (λ g. absurd (not-both (within y g) e))
+      (λ g. rw g (first-narrower p q within l x rest (rw e at first) passes)))
+
   -- A narrower test that the first to pass also passes leaves out the same element.
   pub without-narrower : (p q : A → Bool) (l : List A) (x : A) (rest : List A) → select p l ≡ x ∷ rest → q x ≡ true
       → without (λ y. p y && q y) l ≡ without p l
@@ -154,6 +165,11 @@ module _ {A : Type 0} where
       by-test (p y)
       (λ e. let same : y ≡ x = head-eq-of-cons-eq (rw e at first) in rw (e, same, passes))
       (λ e. simp (e, without-narrower p q l x rest (rw e at first) passes))
+
+  -- Where something passes in front, it is left out there.
+  pub without-append : (q : A → Bool) (l m : List A) → 0 < tally q l → without q (l ++ m) ≡ without q l ++ m
+  without-append q [] m some = absurd (omega arith)
+  without-append q (x ∷ l) m some = by-test (q x) (λ e. simp e) (λ e. simp (e, without-append q l m (rw e at some)))
 
   -- Behind elements of which none passes, the first that does is left out.
   pub without-at : (q : A → Bool) (l : List A) (x : A) (m : List A) → select q l ≡ [] → q x ≡ true → without q (l ++ x ∷ m) ≡ l ++ m

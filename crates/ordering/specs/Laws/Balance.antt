@@ -9,7 +9,7 @@ use Rattle.base.specs.Laws.Lists.{select-append, without-other}
 use Rattle.base.specs.Laws.Tests.{by-test}
 use Rattle.base.specs.Lists.{select}
 use Rattle.transit.specs.Laws.Pairs.{other-pair}
-use Rattle.transit.specs.Message.{sameRank, between, placeOrder, ranks}
+use Rattle.transit.specs.Message.{letter, sameRank, between, placeOrder, ranks}
 use Rattle.transit.specs.Unread.{nextMessage}
 use Rattle.transit.specs.declared.Message.{Message}
 use Rattle.transit.specs.declared.Place.the-variants.{EndList}
@@ -17,7 +17,7 @@ use Rattle.transit.specs.declared.Rank.{Rank}
 use Rattle.transit.specs.declared.Selection.the-variants.{Between}
 use Rattle.protocol.specs.Checks.{refusal}
 use Rattle.protocol.specs.Laws.Accepted.{TakeFits, take-fits}
-use Rattle.protocol.specs.Laws.Core.{Core, core, letter, coreStep, eachBetween, unread-each}
+use Rattle.protocol.specs.Laws.Core.{Core, core, coreStep, eachBetween, unread-each}
 use Rattle.protocol.specs.Laws.CoreStep.{core-step}
 use Rattle.protocol.specs.Laws.State.{sameRank-eq, sameRank-self}
 use Rattle.record.specs.Record.{decode}

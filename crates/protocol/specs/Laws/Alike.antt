@@ -9,7 +9,7 @@ use lib.ListN.{length, length-map, getD}
 use Rattle.base.specs.Laws.Lists.{select-map}
 use Rattle.base.specs.Laws.Tests.{both, not-both}
 use Rattle.base.specs.Lists.{tally}
-use Rattle.transit.specs.Message.{between, to, ranks}
+use Rattle.transit.specs.Message.{letter, between, to, ranks}
 use Rattle.transit.specs.Unread.{limit, mostSent, sentAt}
 use Rattle.transit.specs.declared.Message.{Message}
 use Rattle.transit.specs.declared.Rank.{Rank}
@@ -37,7 +37,7 @@ use Rattle.protocol.specs.Laws.Accepts.{
   part-accepted,
   end-accepted,
 }
-use Rattle.protocol.specs.Laws.Core.{Core, core, settled, letter, core-status}
+use Rattle.protocol.specs.Laws.Core.{Core, core, settled, core-status}
 use Rattle.protocol.specs.Laws.Fit.{tested-pair, stands, pair-fits}
 use Rattle.protocol.specs.Laws.Quiet.{Calm, AllQuiet, Moving, Calling, Joined, nobody}
 use Rattle.protocol.specs.Laws.Sound.{facts}

@@ -10,7 +10,7 @@ use Rattle.transit.specs.Laws.Order.{place-order-is-list-order}
 use Rattle.transit.specs.Laws.Pairs.{ofPair}
 use Rattle.base.specs.Laws.Tests.{by-test}
 use Rattle.base.specs.Lists.{select, without}
-use Rattle.transit.specs.Message.{between, picks, placeOrder, relabelled, ranks}
+use Rattle.transit.specs.Message.{letter, between, picks, placeOrder, relabelled, ranks}
 use Rattle.transit.specs.Unread.{eachTo, firstTo, nextMessage, oneMore}
 use Rattle.transit.specs.declared.Message.{Message}
 use Rattle.transit.specs.declared.Place.{Place}
@@ -34,10 +34,6 @@ settled Unstarted = Unstarted
 settled (Running v) = Running v
 settled (Migrating source target) = Running target
 settled (Ended v) = Ended v
-
--- a message with its place forgotten: all are at one place
-abbrev pub letter : Message → Message
-letter m = relabelled EndList m
 
 pub record Core : Type 0 where
   pub statuses : List Status

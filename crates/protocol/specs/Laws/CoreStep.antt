@@ -7,15 +7,16 @@ use mathlib.Core.Option.{none}
 use lib.Dec.{eqb}
 use Prim.Native.Nat.{ℕ}
 use lib.ListN.{length}
-use Rattle.base.specs.Laws.Lists.{select-map, without-head, without-map}
+use Rattle.base.specs.Laws.Lists.{every-selected, select-map, without-head, without-map}
 use Rattle.base.specs.Laws.Stores.{map-set}
 use Rattle.transit.specs.Laws.Operations.{appends, relabels, relabels-first}
 use Rattle.transit.specs.Laws.Removed.{removed-sent-first}
 use Rattle.base.specs.Lists.{select, without}
-use Rattle.transit.specs.Message.{between}
+use Rattle.transit.specs.Message.{message, letter, between}
 use Rattle.transit.specs.Unread.{counted}
 use Rattle.transit.specs.declared.Found.the-variants.{First}
 use Rattle.transit.specs.declared.Message.{Message}
+use Rattle.transit.specs.declared.Place.the-variants.{EndList}
 use Rattle.transit.specs.declared.Rank.{Rank}
 use Rattle.transit.specs.declared.Selection.the-variants.{Between}
 use Rattle.protocol.specs.Checks.{refusal}
@@ -25,7 +26,6 @@ use Rattle.protocol.specs.Laws.Cases.{drain-cases}
 use Rattle.protocol.specs.Laws.Core.{
   core,
   settled,
-  letter,
   coreStep,
   eachBetween,
   valuesBetween,
@@ -35,7 +35,8 @@ use Rattle.protocol.specs.Laws.Core.{
   core-status,
   endpoint-settled,
 }
-use Rattle.base.specs.Laws.Tests.{not-both}
+use Rattle.base.specs.Laws.Tests.{both-left, not-both}
+use Rattle.protocol.specs.Laws.Links.{sender-of, receiver-of}
 use Rattle.protocol.specs.Laws.Sound.{facts}
 use Rattle.protocol.specs.Laws.Standings.{standings-with-status, standings-with-request, call-unseen, route-unseen}
 use Rattle.protocol.specs.Life.{start, end}
@@ -91,6 +92,23 @@ module _ (s : State) (b a : Rank) (h : sound s ≡ true) (f : TakeFits s b a) wh
       rw (
         without-head (between a b) (map letter (messages s)) (letter (taken .first)) (map letter (taken .rest)) letters,
         letters,
+      )
+
+  -- the letter that is taken has the value and the running number that the take answers
+  pub take-letter :
+      (rest : List Message) ×
+      (select (between a b) (map letter (messages s)) ≡
+      message a b EndList (take b a s .values .0) (take b a s .values .2) ∷ rest)
+  unfolding take
+  take-letter =
+      let own : between a b (taken .first) ≡ true =
+      both-left _ _ (rw (taken .found) at (every-selected (between a b) (messages s))) in
+      let same : letter (taken .first) ≡ message a b EndList (taken .first .value) (taken .first .sequence) =
+      rw (sender-of a b (taken .first) own, receiver-of a b (taken .first) own) in
+      (
+        map letter (taken .rest),
+        select-map (between a b) letter (λ m. refl) (messages s) ∙ ap (map letter) (taken .found) ∙
+        rw (taken .removes) (ap (λ (m : Message). m ∷ map letter (taken .rest)) same),
       )
 
   pub take-value : take b a s .values .0 ∷ valuesBetween a b (coreStep (Take b a) (core s)) ≡ valuesBetween a b (core s)
