@@ -12,3 +12,4 @@ pub mod Open
 pub mod Counts
 pub mod Oldest
 pub mod Served
+pub mod Named

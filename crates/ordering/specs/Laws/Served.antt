@@ -113,7 +113,7 @@ module _ (r : Rank) where
         ap (select (to r)) left ∙ unseen x (letters s ++ new) apart ∙ select-append (to r) (letters s) new
 
     -- A take of r from the rank of the first takes the first.
-    own-take : (a : Rank) → refusal s (Take r a) ≡ none → FirstFrom s (a .0) →
+    pub own-take : (a : Rank) → refusal s (Take r a) ≡ none → FirstFrom s (a .0) →
         mine s ≡ message a r EndList (take r a s .values .0) (take r a s .values .2) ∷ mine (apply (Take r a) s .state)
     own-take a p x =
         let from : x .first .sender ≡ a = ap (λ (n : ℕ). record { 0 = n }) (x .sender) in

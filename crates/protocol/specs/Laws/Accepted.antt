@@ -76,6 +76,12 @@ started-of-migrating (Running v) h = refl
 started-of-migrating (Migrating v w) h = refl
 started-of-migrating (Ended v) h = refl
 
+pub started-of-running : (t : Status) → isRunning t ≡ true → isStarted t ≡ true
+started-of-running Unstarted h = h
+started-of-running (Running v) h = refl
+started-of-running (Migrating v w) h = refl
+started-of-running (Ended v) h = refl
+
 pub running-not-ended : (t : Status) → isRunning t ≡ true → isEnded t ≡ false
 running-not-ended Unstarted h = refl
 running-not-ended (Running v) h = refl

@@ -16,6 +16,7 @@ use Rattle.protocol.specs.Laws.Accepted.{
   LandFits,
   PartFits,
   EndFits,
+  LookFits,
   running-not-ended,
   running-not-migrating,
   migrating-not-ended,
@@ -26,7 +27,7 @@ use Rattle.protocol.specs.Laws.Opened.{openedChecks}
 use Rattle.protocol.specs.Laws.Ranks.{everyRank-of}
 use Rattle.broker.specs.Names.{isClosed, isClear}
 use Rattle.broker.specs.State.{State, status, connection, backlog}
-use Rattle.record.specs.declared.Record.the-variants.{Start, Call, Route, Send, Take, Move, Land, Part, End}
+use Rattle.record.specs.declared.Record.the-variants.{Start, Call, Route, Send, Take, Move, Land, Part, End, Look}
 
 pub start-accepted : (s : State) (r : Rank) (h : ℕ) → StartFits s r h → refusal s (Start r h) ≡ none
 unfolding openedChecks
@@ -144,4 +145,15 @@ end-accepted s r f =
       everyRank-of (λ p. isClosed (connection s r p)) (f .closed),
       f .idle,
       f .nothing,
+    )
+
+pub look-accepted : (s : State) (r : Rank) → LookFits s r → refusal s (Look r) ≡ none
+unfolding openedChecks
+look-accepted s r f =
+    simp (
+      lt-ltb _ _ (f .one .in-range),
+      f .one .started,
+      running-not-ended (status s r) (f .running),
+      running-not-migrating (status s r) (f .running),
+      f .unread,
     )
