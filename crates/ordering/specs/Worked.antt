@@ -9,3 +9,4 @@ pub mod Overlapping
 pub mod Restarts
 pub mod Full
 pub mod Numbers
+pub mod Served
