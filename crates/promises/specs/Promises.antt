@@ -3,20 +3,20 @@
 -- call promise stands in src/lib.rt in the same way. Assumes nothing.
 use mathlib.Core.Bool.{Bool, true, false, not, _&&_}
 use mathlib.Core.List.{List, [], _∷_, _++_, map}
-use mathlib.Core.Option.{none, some}
+use mathlib.Core.Option.{Option, none, some}
 use mathlib.Core.Path.{_≡_, refl, sym, ap, _∙_}
 use Prim.Native.String.{String}
 use Prim.Native.Nat.{ℕ, suc, _+_, _/_, _%_, _^_, _<_, _≤_, min}
-use lib.Dec.{leb}
+use lib.Dec.{leb, ltb}
 use native.Mathlib.Numerals.{unary-clauses}
 use lib.IntN.{negsuc, pos}
 use lib.ListN as ListN
-use lib.ListN.{length, getD, drop}
+use lib.ListN.{length, getD, drop, replicate}
 use Rattle.answer.specs.Answer.{refusalNumber, number, values, NeverEighteen}
 use Rattle.answer.specs.declared.Answer.the-variants.{Accepted, Refused}
 use Rattle.answer.specs.declared.Refusal.{Refusal}
 use Rattle.answer.specs.declared.Refusal.the-variants.{Unsound, UnknownKind, CutShort}
-use Rattle.base.specs.Lists.{every, select, upFrom}
+use Rattle.base.specs.Lists.{every, select, tally, upFrom}
 use Rattle.broker.specs.Names
 use Rattle.broker.specs.State.{State, fresh, status, request, drawnOn, messages, nextVmid}
 use Rattle.generator.specs.Answer.{makes}
@@ -45,10 +45,14 @@ use Rattle.ordering.specs.Claim.{
   areBytes,
 }
 use Rattle.ordering.specs.Laws.Counts.{count-never-passes}
+use Rattle.ordering.specs.Laws.Named.{named-can-be-taken}
 use Rattle.ordering.specs.Laws.Numbers.{numbered}
+use Rattle.ordering.specs.Laws.Oldest.{kept-in-order}
 use Rattle.ordering.specs.Laws.Open.{everyMoveLanded, no-move-open-by-the-list}
 use Rattle.ordering.specs.Laws.Ordering.{ordering}
 use Rattle.ordering.specs.Laws.Runs.{fresh-sound, sound-after}
+use Rattle.ordering.specs.Laws.Served.{look-names-first, served}
+use Rattle.ordering.specs.Oldest.{lettersSent, lessAllTaken, goesByLooks, lettersTaken}
 use Rattle.print_page.specs.Ascii.{asciiLines}
 use Rattle.print_run.specs.Laws.Pieces.{run-in-pieces, printed-in-pieces}
 use Rattle.print_run.specs.Laws.Readings.{readings, readings-run}
@@ -80,6 +84,7 @@ use Rattle.protocol.specs.Laws.Restart.{
 }
 use Rattle.protocol.specs.Laws.Step.{step-refused, step-accepted, step-of-sound, step-of-unsound, step-keeps-sound}
 use Rattle.protocol.specs.Laws.Values.{values-hold}
+use Rattle.protocol.specs.Messages as Messages
 use Rattle.protocol.specs.Messages.{unreadBetween, sentBetween}
 use Rattle.protocol.specs.Migrate
 use Rattle.protocol.specs.Sound.{sound}
@@ -95,19 +100,30 @@ use Rattle.replay_stage.specs.declared.Given.the-variants.{Failed, Nothing, Byt
 use Rattle.replay_stage.specs.declared.Stage.{Stage}
 use Rattle.replay_stage.specs.declared.Then.the-variants as Then
 use Rattle.record.specs.Laws.Record.{at-end, no-kind, cut-short, whole, value-back}
+use Rattle.record.specs.Parts.{is}
 use Rattle.record.specs.Record.{isKind, bodyLength, recordOf, decode, valueOf}
 use Rattle.record.specs.declared.Decoded.the-variants.{Whole, Unknown}
 use Rattle.record.specs.declared.Record.{Record}
-use Rattle.record.specs.declared.Record.the-variants.{Move}
-use Rattle.transit.specs.Message.{ranks, placeOrder}
+use Rattle.record.specs.declared.Record.the-variants.{Take, Move, Look}
+use Rattle.transit.specs.Message.{ranks, message, letter, sameRank, to, placeOrder}
 use Rattle.transit.specs.Laws.Operations.{full-stays}
 use Rattle.transit.specs.Unread.{Unread, limit, mostSent, appended}
 use Rattle.transit.specs.declared.Message.{Message}
 use Rattle.transit.specs.declared.Place.{Place}
+use Rattle.transit.specs.declared.Place.the-variants.{EndList}
 use Rattle.transit.specs.declared.Rank.{Rank}
 use Rattle.transit.specs.declared.Selection.the-variants.{Between}
 use Rattle.broker.specs.declared.process.Status.the-variants.{Running}
 use Rattle.broker.specs.declared.process.Vmid.{Vmid}
+use Rattle.promises.specs.Laws.Looks.{
+  looks,
+  takes-from-the-named,
+  another-looks,
+  another-takes,
+  another-kind,
+  look-where-unread,
+  unread-where-look,
+}
 use Rattle.promises.specs.Laws.Rows.{none-applies, none-applied}
 use Rattle.promises.specs.Laws.Shown.{all-shown}
 use Rattle.promises.specs.Words.{Run, _prints_, start, call, route, send, take, move, heed, drain, land, part, end, look}
@@ -311,6 +327,83 @@ restart s r v ok in-range runs = (
 pub restart-like-any-move : (s : State) (r : Rank) (h k : ℕ) → h < 8 → k < 8 → drawnOn s h < 65535 → drawnOn s k < 65535 →
     refusal s (Move r h) ≡ refusal s (Move r k)
 restart-like-any-move = like-any-other
+
+-- Paper 02, change 6.
+
+-- "The order of sending over all pairs is kept in the state": over every list of steps, the state holds the messages that the accepted sends
+-- sent, over all pairs and in list order, each with the next number of its pair, less, for each accepted take, the first of its pair.
+pub sent-over-all-pairs-in-order : (xs : List Reading) →
+    map letter (messages (after fresh xs)) ≡ lessAllTaken (accepted fresh xs) (lettersSent (replicate 256 0) (accepted fresh xs))
+sent-over-all-pairs-in-order xs = kept-in-order xs fresh fresh-sound
+
+-- "Look now names the sender of the message sent first of all those unread by r, whatever its place."
+pub look-names-the-oldest : (xs : List Reading) (r : Rank) → refusal (after fresh xs) (Look r) ≡ none →
+    (oldest : Message) × (rest : List Message) ×
+    (select (to r) (lessAllTaken (accepted fresh xs) (lettersSent (replicate 256 0) (accepted fresh xs))) ≡ oldest ∷ rest) ×
+    (apply (Look r) (after fresh xs) ≡
+    record { state = after fresh xs; values = record { 0 = oldest .sender .0; 1 = 0; 2 = 0 } })
+unfolding apply Messages.look
+look-names-the-oldest xs r passes =
+    let first = look-names-first r (after fresh xs) (sound-after xs fresh fresh-sound) passes in
+    (first .first, first .rest, ap (select (to r)) (sym (sent-over-all-pairs-in-order xs)) ∙ first .stands, rw (first .sender))
+
+-- 22: "look: r has none": a look of a rank that runs is accepted where something is unread by it, and nowhere else.
+pub look-is-accepted : (s : State) (r : Rank) → r .0 < 16 → Names.isRunning (status s r) ≡ true → 0 < tally (to r) (messages s) →
+    refusal s (Look r) ≡ none
+look-is-accepted = look-where-unread
+
+pub accepted-look-has-something : (s : State) (r : Rank) → refusal s (Look r) ≡ none →
+    (r .0 < 16) × (Names.isRunning (status s r) ≡ true) × (0 < tally (to r) (messages s))
+accepted-look-has-something = unread-where-look
+
+-- "one sender starved": nobody does. A receiver goes by its looks where each of its takes is from the rank that its last look named, and no
+-- other take of it is between; `named` is the rank that it named and from which it has not taken yet. What others do is free.
+pub what-going-by-looks-is : (r : Rank) (named : Option ℕ) (es : List Entry) →
+    (goesByLooks r named [] ≡ true) ×
+    ((v1 v3 : ℕ) → goesByLooks r named (record { read = Look r; v1 = v1; v3 = v3 } ∷ es) ≡ goesByLooks r (some v1) es) ×
+    ((v1 v3 : ℕ) (a : Rank) →
+    goesByLooks r (some (a .0)) (record { read = Take r a; v1 = v1; v3 = v3 } ∷ es) ≡ goesByLooks r none es) ×
+    ((v1 v3 : ℕ) (q : Rank) → sameRank q r ≡ false →
+    (goesByLooks r named (record { read = Look q; v1 = v1; v3 = v3 } ∷ es) ≡ goesByLooks r named es) ×
+    ((a : Rank) → goesByLooks r named (record { read = Take q a; v1 = v1; v3 = v3 } ∷ es) ≡ goesByLooks r named es)) ×
+    ((e : Entry) → is (0x05 ∷ 0x0C ∷ []) (e .read) ≡ false → goesByLooks r named (e ∷ es) ≡ goesByLooks r named es)
+what-going-by-looks-is r named es = (
+  refl,
+  looks r named es,
+  takes-from-the-named r named es,
+  λ v1 v3 q other. (another-looks r named es v1 v3 q other, another-takes r named es v1 v3 q other),
+  λ e. another-kind r named e es,
+)
+
+-- Over every list of steps from a sound state: it takes its messages in the order in which they were sent over all senders, those that were
+-- unread first and behind them those that were sent; and when it has taken as many as were unread at the start, it has taken just those,
+-- and all that is unread by it was sent since: its number is above those that its pair had sent.
+pub nobody-starves : (r : Rank) (xs : List Reading) (s : State) → sound s ≡ true → goesByLooks r none (accepted s xs) ≡ true →
+    let took = lettersTaken r (accepted s xs) in
+    let unread-at-the-start = select (to r) (map letter (messages s)) in
+    (took ++ select (to r) (map letter (messages (after s xs))) ≡
+    unread-at-the-start ++ select (to r) (lettersSent (s .unread .sent) (accepted s xs))) ×
+    (tally (to r) (messages s) ≤ length took →
+    (ListN.take (tally (to r) (messages s)) took ≡ unread-at-the-start) ×
+    (every (λ (m : Message). ltb (sentBetween (m .sender) r s) (m .sequence)) (select (to r) (messages (after s xs))) ≡ true))
+nobody-starves r xs s ok goes =
+    let claim = served r xs s ok goes in
+    (claim .in-order, λ enough. (claim .all-taken enough, claim .none-left enough))
+
+-- And it can go on: what a look named can be taken, whatever others did since, as long as r runs; the take gives the value and the number
+-- of the message that was the oldest when r looked.
+pub named-is-there-to-take : (r : Rank) (xs : List Reading) (s : State) → sound s ≡ true → refusal s (Look r) ≡ none →
+    lettersTaken r (accepted s xs) ≡ [] → Names.isRunning (status (after s xs) r) ≡ true →
+    let a = Messages.oldestSender r s in
+    let values = Messages.take r a (after s xs) .values in
+    (Messages.look r s .values .0 ≡ a .0) ×
+    (refusal (after s xs) (Take r a) ≡ none) ×
+    (rest : List Message) ×
+    (select (to r) (map letter (messages s)) ≡ message a r EndList (values .0) (values .2) ∷ rest)
+unfolding Messages.look
+named-is-there-to-take r xs s ok looks nothing runs =
+    let there = named-can-be-taken r xs s ok looks nothing runs in
+    (refl, there .0, there .1, there .2)
 
 -- "the value is four bytes, least significant first"
 pub value-in-four-bytes : (v : ℕ) → v < 2 ^ 32 → valueOf (v % 256) (v / 256 % 256) (v / 65536 % 256) (v / 16777216 % 256) ≡ v

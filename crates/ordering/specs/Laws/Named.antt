@@ -10,7 +10,7 @@ use lib.Dec.{eqb}
 use lib.ListN.{length}
 use Rattle.base.specs.Laws.Lists.{every-select, every-selected, select-map, first-narrower}
 use Rattle.base.specs.Laws.Tests.{by-test, both-left, both-right}
-use Rattle.base.specs.Lists.{select, tally}
+use Rattle.base.specs.Lists.{select}
 use Rattle.transit.specs.Message.{message, letter, sameRank, between, to, isRank, ranks}
 use Rattle.transit.specs.declared.Message.{Message}
 use Rattle.transit.specs.declared.Place.the-variants.{EndList}
@@ -28,10 +28,10 @@ use Rattle.record.specs.declared.Record.the-variants.{Take, Look}
 use Rattle.ordering.specs.Claim.{Reading, Entry, after, accepted}
 use Rattle.ordering.specs.Laws.Runs.{sound-after}
 use Rattle.ordering.specs.Laws.Served.{FirstFrom, own-take, look-names-first, served}
-use Rattle.ordering.specs.Oldest.{letters, lettersSent, isLookOf, isTakeOf, goesByLooks}
+use Rattle.ordering.specs.Oldest.{letters, lettersSent, isLookOf, isTakeOf, goesByLooks, lettersTaken}
 
 -- A receiver that takes nothing goes by its looks.
-takes-nothing : (r : Rank) (es : List Entry) (named : Option ℕ) → select (isTakeOf r) es ≡ [] → goesByLooks r named es ≡ true
+takes-nothing : (r : Rank) (es : List Entry) (named : Option ℕ) → lettersTaken r es ≡ [] → goesByLooks r named es ≡ true
 takes-nothing r [] named nothing = refl
 takes-nothing r (e ∷ es) named nothing =
     by-test (isTakeOf r e)
@@ -80,7 +80,7 @@ first-can-be-taken r s a h running x = at (select (to r) (messages s)) refl
 -- Where a look of r is accepted and then others do what they do, a take of r from the rank named is accepted as long as r runs, and takes
 -- the message that was the oldest when r looked.
 pub named-can-be-taken : (r : Rank) (xs : List Reading) (s : State) → sound s ≡ true → refusal s (Look r) ≡ none →
-    select (isTakeOf r) (accepted s xs) ≡ [] → isRunning (status (after s xs) r) ≡ true →
+    lettersTaken r (accepted s xs) ≡ [] → isRunning (status (after s xs) r) ≡ true →
     let a = oldestSender r s in
     let values = take r a (after s xs) .values in
     (refusal (after s xs) (Take r a) ≡ none) ×
