@@ -1,5 +1,5 @@
 -- What each kind of step answers: worked runs from the fresh state, with v1, v2 and v3 of the steps that they show and what must hold at
--- the end. Paper 01, "The step log"; paper 02, change 4. That they answer so is `Laws/Values`. Assumes nothing.
+-- the end. Paper 01, "The step log"; paper 02, changes 4 and 6. That they answer so is `Laws/Values`. Assumes nothing.
 use mathlib.Core.Path.{_≡_}
 use mathlib.Core.Bool.{Bool, true, not, _&&_}
 use mathlib.Core.List.{List, [], _∷_, _++_}
@@ -233,11 +233,22 @@ part =
 abbrev pub end : Edge
 end = record { steps = opening ++ answers (Kind.end ∷ 2 ∷ []) 0 0 0 ∷ []; then = λ s. isEnded (status s (rank 2)) }
 
--- 0C: "v1 a rank with a message unread by r": the steps of a run name rank 0
+-- 0C: paper 02, change 6: "Look now names the sender of the message sent first of all those unread by r, whatever its place.": rank 2, though
+-- rank 0 is lower and its younger message in the list, and though rank 0 has an older message unread; and then rank 0
 abbrev pub look : Edge
 look =
     record {
-      steps = opening ++ joining 0 1 ++ sending 0 1 10 ∷ answers (Kind.look ∷ 1 ∷ []) 0 0 0 ∷ [];
+      steps =
+          opening ++
+          joining 0 1 ++
+          joining 2 1 ++
+          sending 1 0 5 ∷
+          sending 2 1 10 ∷
+          sending 0 1 20 ∷
+          accepts (Kind.part ∷ 0 ∷ 1 ∷ []) ∷
+          answers (Kind.look ∷ 1 ∷ []) 2 0 0 ∷
+          accepts (Kind.take ∷ 1 ∷ 2 ∷ []) ∷
+          answers (Kind.look ∷ 1 ∷ []) 0 0 0 ∷ [];
       then = answered;
     }
 

@@ -101,8 +101,7 @@ named-can-be-taken r xs s h looks nothing running =
       sender = first .sender;
     } in
     let passes = first-can-be-taken r end (oldestSender r s) ok running still in
-    let taken = own-take r end ok (oldestSender r s) passes still in
-    (
+    let taken = own-take r end ok (oldestSender r s) passes still in (
       passes,
       first .rest,
       first .stands ∙ ap (λ (m : Message). m ∷ first .rest) (head-eq-of-cons-eq (sym (still .stands) ∙ taken)),

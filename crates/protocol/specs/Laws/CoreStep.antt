@@ -104,11 +104,10 @@ module _ (s : State) (b a : Rank) (h : sound s ≡ true) (f : TakeFits s b a) wh
       let own : between a b (taken .first) ≡ true =
       both-left _ _ (rw (taken .found) at (every-selected (between a b) (messages s))) in
       let same : letter (taken .first) ≡ message a b EndList (taken .first .value) (taken .first .sequence) =
-      rw (sender-of a b (taken .first) own, receiver-of a b (taken .first) own) in
-      (
+      rw (sender-of a b (taken .first) own, receiver-of a b (taken .first) own) in (
         map letter (taken .rest),
         select-map (between a b) letter (λ m. refl) (messages s) ∙ ap (map letter) (taken .found) ∙
-        rw (taken .removes) (ap (λ (m : Message). m ∷ map letter (taken .rest)) same),
+            rw (taken .removes) (ap (λ (m : Message). m ∷ map letter (taken .rest)) same),
       )
 
   pub take-value : take b a s .values .0 ∷ valuesBetween a b (coreStep (Take b a) (core s)) ≡ valuesBetween a b (core s)
