@@ -330,8 +330,8 @@ restart-like-any-move = like-any-other
 
 -- Paper 02, change 6.
 
--- "The order of sending over all pairs is kept in the state": over every list of steps, the state holds the messages that the accepted sends
--- sent, over all pairs and in list order, each with the next number of its pair, less, for each accepted take, the first of its pair.
+-- "The order of sending over all pairs is kept in the state": over every list of steps, the state holds what the accepted sends sent, over
+-- all pairs and in list order, each message with the next number of its pair, less, for each accepted take, the first of its pair.
 pub sent-over-all-pairs-in-order : (xs : List Reading) →
     map letter (messages (after fresh xs)) ≡ lessAllTaken (accepted fresh xs) (lettersSent (replicate 256 0) (accepted fresh xs))
 sent-over-all-pairs-in-order xs = kept-in-order xs fresh fresh-sound

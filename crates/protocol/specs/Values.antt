@@ -233,8 +233,8 @@ part =
 abbrev pub end : Edge
 end = record { steps = opening ++ answers (Kind.end ∷ 2 ∷ []) 0 0 0 ∷ []; then = λ s. isEnded (status s (rank 2)) }
 
--- 0C: paper 02, change 6: "Look now names the sender of the message sent first of all those unread by r, whatever its place.": rank 2, though
--- rank 0 is lower and its younger message in the list, and though rank 0 has an older message unread; and then rank 0
+-- 0C: paper 02, change 6: "Look now names the sender of the message sent first of all those unread by r, whatever its place.": rank 2,
+-- though rank 0 is lower and its younger message in the list, and though rank 0 has an older message unread; and then rank 0
 abbrev pub look : Edge
 look =
     record {

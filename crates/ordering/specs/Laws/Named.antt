@@ -1,6 +1,6 @@
 -- What a look named can be taken, whatever others did since. Paper 02, change 6. Assumes nothing.
 use mathlib.Core.Path.{_≡_, refl, sym, ap, _∙_}
-use mathlib.Core.Bool.{true, false, _&&_, not}
+use mathlib.Core.Bool.{true, _&&_}
 use mathlib.Core.List.{List, [], _∷_, _++_, map, head-eq-of-cons-eq}
 use mathlib.Core.Option.{Option, none, some}
 use Prim.Native.Nat.{ℕ, suc}
@@ -18,7 +18,7 @@ use Rattle.transit.specs.declared.Rank.{Rank}
 use Rattle.broker.specs.Names.{isRunning, isStarted}
 use Rattle.broker.specs.State.{State, status, messages}
 use Rattle.protocol.specs.Checks.{refusal}
-use Rattle.protocol.specs.Laws.Accepted.{look-fits, started-of-running}
+use Rattle.protocol.specs.Laws.Accepted.{started-of-running}
 use Rattle.protocol.specs.Laws.Accepts.{take-accepted}
 use Rattle.protocol.specs.Laws.Sound.{facts, isNamed, hasEnds}
 use Rattle.protocol.specs.Laws.State.{sameRank-eq, sameRank-self, sameRank-turned}
@@ -56,7 +56,8 @@ first-can-be-taken r s a h running x = at (select (to r) (messages s)) refl
         let mine : to r m ≡ true = both-left _ _ (rw e at (every-selected (to r) (messages s))) in
         let receiver : m .receiver ≡ r = sameRank-eq (m .receiver) r mine in
         let name : isNamed m ≡ true = both-left _ _ (rw e at (every-select isNamed (to r) (messages s) (facts s h .mail .named))) in
-        let ends : hasEnds s m ≡ true = both-left _ _ (rw e at (every-select (hasEnds s) (to r) (messages s) (facts s h .mail .ends-fit))) in
+        let ends : hasEnds s m ≡ true =
+        both-left _ _ (rw e at (every-select (hasEnds s) (to r) (messages s) (facts s h .mail .ends-fit))) in
         let ranked = both-left (isRank (m .sender) && isRank (m .receiver)) _ name in
         let apart = not-true (sameRank (m .sender) (m .receiver)) (both-right (isRank (m .sender) && isRank (m .receiver)) _ name) in
         let own : between a r m ≡ true = rw (from, sameRank-self a) mine in

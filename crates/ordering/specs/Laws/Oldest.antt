@@ -1,8 +1,7 @@
--- The order of sending over all pairs is kept along every list of steps, and a look names the sender of the first of it. Paper 02, change 6.
--- Assumes nothing.
+-- The order of sending over all pairs is kept along every list of steps. Paper 02, change 6. Assumes nothing.
 use mathlib.Core.Path.{_≡_, refl, sym, ap, _∙_}
 use mathlib.Core.Bool.{true}
-use mathlib.Core.List.{List, [], _∷_, _++_, append-nil, append-assoc}
+use mathlib.Core.List.{List, _++_, append-nil, append-assoc}
 use mathlib.Core.Option.{none}
 use Prim.Native.Nat.{ℕ, _<_}
 use native.Mathlib.Nat.{pos-of-ne-zero}
@@ -22,7 +21,7 @@ use Rattle.broker.specs.State.{State, messages}
 use Rattle.protocol.specs.Step.{apply}
 use Rattle.record.specs.declared.Record.{Record}
 use Rattle.record.specs.declared.Record.the-variants.{Start, Call, Route, Send, Take, Move, Heed, Drain, Land, Part, End, Look}
-use Rattle.ordering.specs.Claim.{Reading, Entry, after, accepted}
+use Rattle.ordering.specs.Claim.{Reading, after, accepted}
 use Rattle.ordering.specs.Laws.Runs.{along}
 use Rattle.ordering.specs.Oldest.{letters, posted, countsAfter, lettersSent, lessTaken, lessAllTaken, KeptInOrder}
 

@@ -16,7 +16,6 @@ use Rattle.protocol.specs.Laws.CoreStep.{core-step}
 use Rattle.protocol.specs.Laws.Kept.{sound-kept}
 use Rattle.protocol.specs.Laws.Quiet.{Calling, Joined, Quiet, sameVmid-self, call-calm, route-corrects, route-joins, send-calm, part-calm}
 use Rattle.broker.specs.Names.{sameVmid, endpoint, isEnded}
-use Rattle.transit.specs.Message.{rank}
 use Rattle.record.specs.Record.{decode, recordOf}
 use Rattle.protocol.specs.Sound.{sound}
 use Rattle.broker.specs.State.{State, status, location}

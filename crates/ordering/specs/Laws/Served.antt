@@ -1,7 +1,7 @@
 -- A receiver that goes by its looks takes its messages in the order in which they were sent over all senders. Paper 02, change 6.
 -- Assumes nothing.
 use mathlib.Core.Path.{_≡_, refl, sym, ap, subst, _∙_}
-use mathlib.Core.Bool.{Bool, true, false, _&&_}
+use mathlib.Core.Bool.{true, false, _&&_}
 use mathlib.Core.List.{List, [], _∷_, _++_, map, append-nil, append-assoc, head-eq-of-cons-eq}
 use mathlib.Core.Option.{Option, none, some}
 use Prim.Native.Nat.{ℕ, zero, suc, _+_, _-_, _≤_}
@@ -57,7 +57,6 @@ use Rattle.ordering.specs.Oldest.{
   lessTaken,
   isLookOf,
   isTakeOf,
-  wasNamed,
   goesByLooks,
   lettersTaken,
   sentSince,

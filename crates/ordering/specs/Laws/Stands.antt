@@ -18,7 +18,7 @@ use Rattle.protocol.specs.Laws.CoreStep.{core-step, take-value, take-sequence}
 use Rattle.protocol.specs.Laws.Kept.{sound-kept}
 use Rattle.protocol.specs.Laws.Quiet.{AllQuiet, Moving, Quiet, start-calm, take-calm, end-calm, move-calm, land-calm}
 use Rattle.protocol.specs.Laws.State.{sameRank-self}
-use Rattle.transit.specs.Message.{ranks, rank}
+use Rattle.transit.specs.Message.{ranks}
 use Rattle.record.specs.Record.{decode, recordOf}
 use Rattle.protocol.specs.Sound.{sound}
 use Rattle.broker.specs.State.{State}

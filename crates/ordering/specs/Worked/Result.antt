@@ -8,7 +8,7 @@ use Prim.Native.Nat.{ℕ}
 use lib.ListN.{getD}
 use Rattle.base.specs.Laws.Lists.{select-select}
 use Rattle.base.specs.Lists.{select}
-use Rattle.transit.specs.Message.{sameRank, placeOrder, rank}
+use Rattle.transit.specs.Message.{sameRank, placeOrder}
 use Rattle.transit.specs.declared.Message.{Message}
 use Rattle.transit.specs.declared.Rank.{Rank}
 use Rattle.transit.specs.declared.Selection.the-variants.{Between}

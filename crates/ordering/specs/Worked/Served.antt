@@ -1,11 +1,10 @@
 -- Three senders compete for one receiver, which goes by its looks while others send, take and move, and while it moves itself: what it
 -- takes is in the order of sending. Paper 02, change 6. Computed from the definitions. Assumes nothing.
-use mathlib.Core.Path.{_≡_, refl, ap, _∙_}
+use mathlib.Core.Path.{_≡_, ap, _∙_}
 use mathlib.Core.Bool.{true, false}
 use mathlib.Core.List.{List, [], _∷_, _++_, map}
 use mathlib.Core.Option.{none}
 use Prim.Native.Nat.{ℕ}
-use native.Mathlib.Omega.{arith}
 use Rattle.base.specs.Lists.{select}
 use Rattle.transit.specs.Message.{message, rank, to}
 use Rattle.transit.specs.declared.Message.{Message}

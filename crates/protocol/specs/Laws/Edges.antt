@@ -7,7 +7,6 @@ use Rattle.protocol.specs.Edges.{Try, Edge, plays, holds, A, B, C, D, E,
 use Rattle.base.specs.Laws.Tests.{true-of}
 use Rattle.protocol.specs.Laws.Opened.{opened, openedSound}
 use Rattle.protocol.specs.Laws.Step.{step-of-sound, step-keeps-sound}
-use Rattle.transit.specs.Message.{rank}
 use Rattle.protocol.specs.Sound
 use Rattle.broker.specs.State.{State, fresh}
 use Rattle.protocol.specs.Step.{Outcome, step, stepSound}

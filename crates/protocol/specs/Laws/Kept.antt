@@ -8,7 +8,6 @@ pub mod Views
 use mathlib.Core.Path.{_≡_}
 use mathlib.Core.Bool.{true}
 use mathlib.Core.Option.{none}
-use Rattle.transit.specs.declared.Rank.{Rank}
 use Rattle.protocol.specs.Checks.{refusal}
 use Rattle.protocol.specs.Laws.Fit.{ends-from-fits, unheeded-from-fits, places-from-fits}
 use Rattle.protocol.specs.Laws.Kept.Names.{names-kept}

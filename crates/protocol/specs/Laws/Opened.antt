@@ -4,7 +4,6 @@ use mathlib.Core.List.{List}
 use mathlib.Core.Option.{Option}
 use Prim.Native.Nat.{ℕ}
 use Rattle.transit.specs.Opened.{openedUnread}
-use Rattle.transit.specs.declared.Rank.{Rank}
 use Rattle.protocol.specs.Checks
 use Rattle.protocol.specs.Connect
 use Rattle.protocol.specs.Life

@@ -11,7 +11,6 @@ use lib.Dec.{leb, ltb}
 use lib.ListN.{length, getD}
 use Rattle.base.specs.Laws.Tests.{by-test, both-left, both-right}
 use Rattle.base.specs.Lists.{every}
-use Rattle.transit.specs.declared.Rank.{Rank}
 use Rattle.answer.specs.Answer.{refusalNumber, values}
 use Rattle.protocol.specs.Checks.{Check, checks, firstOf, refusal}
 use Rattle.protocol.specs.Laws.Kept.{sound-kept}
