@@ -37,8 +37,7 @@ impl RankSet {
         self.0.count_ones()
     }
 
-    /// The lowest member.
-    pub fn lowest(self) -> Option<Rank> {
+    fn lowest(self) -> Option<Rank> {
         (self.0 != 0).then(|| Rank(self.0.trailing_zeros() as u8))
     }
 }
