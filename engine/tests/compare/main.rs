@@ -11,6 +11,7 @@ mod full_pair;
 mod garbage;
 mod limits;
 mod log;
+mod looks;
 mod made_up;
 #[path = "../shared/made_up_log.rs"]
 mod made_up_log;

@@ -226,6 +226,11 @@ fn lists_with_restarts_agree_with_the_plain_reading() {
     (31..34).for_each(|seed| compare(seed, Mix::RESTARTS, 8_000));
 }
 
+#[test]
+fn lists_with_looks_agree_with_the_plain_reading() {
+    (51..54).for_each(|seed| compare(seed, Mix::LOOKS, 8_000));
+}
+
 /// Mostly refused steps: the order of the checks matters most here.
 const STRAYS: Mix = Mix {
     stray_one_in: 2,
