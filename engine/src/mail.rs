@@ -9,6 +9,7 @@ use crate::names::Rank;
 use crate::rank_set::RankSet;
 use crate::sending_order::{Firsts, Stamp, Stamps};
 use crate::slots::{Slot, Slots, Stored};
+use std::hint::select_unpredictable;
 use std::iter::{repeat_n, successors};
 
 /// How many messages of one ordered pair are unread, in all or at a place. "The
@@ -83,7 +84,7 @@ impl PairQueue {
         let place = place as usize;
         debug_assert!(self.counts[place + 1..].iter().all(|&count| count == 0));
         let first = self.firsts[place];
-        self.firsts[place] = if self.counts[place] == 0 { slot } else { first };
+        self.firsts[place] = select_unpredictable(self.counts[place] == 0, slot, first);
         self.last = slot;
         self.counts[place] += 1;
         self.unread += 1;
@@ -105,7 +106,8 @@ impl PairQueue {
     }
 }
 
-/// All unread messages of the desk, and how many each pair has sent.
+/// All unread messages of the desk, and how many each pair has sent. Whether a
+/// pair has none cannot be foreseen, so sends and takes don't branch on it.
 #[derive(Clone, Debug)]
 pub struct Mail {
     queues: Box<ByPair<PairQueue>>,
@@ -234,7 +236,7 @@ impl Mail {
         self.unread += 1;
         self.waiting[receiver.index()].insert(sender);
         self.firsts.note_sent((sender, receiver), stamp);
-        let before = if queue.unread == 0 { slot } else { queue.last };
+        let before = select_unpredictable(queue.unread == 0, slot, queue.last);
         self.slots.link(before, slot);
         queue.push(slot, place)
     }
@@ -254,12 +256,12 @@ impl Mail {
         queue.counts[place] -= 1;
         queue.unread -= 1;
         self.unread -= 1;
-        let mut first = self.slots.stored(next).stamp;
-        if queue.unread == 0 {
-            first = Stamp::NONE;
-            self.waiting[receiver.index()].remove(sender);
-        }
+        let emptied = queue.unread == 0;
+        let first = self.slots.stored(next).stamp;
+        let first = select_unpredictable(emptied, Stamp::NONE, first);
         self.firsts.note_taken((sender, receiver), first);
+        let waiting = &mut self.waiting[receiver.index()];
+        *waiting = select_unpredictable(emptied, waiting.without(sender), *waiting);
         Some((taken.content, queue.unread))
     }
 
