@@ -71,36 +71,48 @@ impl Desk {
             let (value, number) = (message.value, message.number);
             let content = Content { value, number };
             desk.mail
-                .put_back(message.sender, message.receiver, content, place);
+                .put_last(message.sender, message.receiver, content, place);
         }
         Some(desk)
     }
 
-    /// The plain state, its messages ascending by sender and receiver.
+    /// The plain state.
     pub fn snapshot(&self) -> Snapshot {
         let mut state = Snapshot::fresh();
         state.standings = self.standings;
         state.tables = self.tables;
         state.calls = self.calls;
         state.drawn = self.drawn.map(u32::from);
-        state.messages.reserve(self.mail.unread());
+        state.messages = self.messages();
         for holder in Rank::all() {
             for other in Rank::all() {
                 state.lines[holder.index()][other.index()] = self.line(holder, other);
                 state.awaits[holder.index()][other.index()] = self.awaits(holder, other);
                 state.sent[holder.index()][other.index()] = self.mail.sent(holder, other);
-                let unread = self.mail.unread_of_pair(holder, other);
+            }
+        }
+        state
+    }
+
+    /// The unread messages in order of sending over all pairs.
+    fn messages(&self) -> Vec<Message> {
+        let mut stamped = Vec::with_capacity(self.mail.unread());
+        for receiver in Rank::all() {
+            for sender in self.mail.senders_to(receiver) {
+                let stamps = self.mail.stamps_of_pair(sender, receiver);
+                let unread = self.mail.unread_of_pair(sender, receiver);
                 let messages = unread.map(|(content, place)| Message {
-                    sender: holder,
-                    receiver: other,
+                    sender,
+                    receiver,
                     value: content.value,
                     place: place as u8,
                     number: content.number,
                 });
-                state.messages.extend(messages);
+                stamped.extend(stamps.zip(messages));
             }
         }
-        state
+        stamped.sort_unstable_by_key(|&(stamp, _)| stamp);
+        stamped.into_iter().map(|(_, message)| message).collect()
     }
 
     /// How many bytes the state takes.

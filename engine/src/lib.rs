@@ -7,6 +7,7 @@
 #![warn(missing_docs)]
 
 pub mod bits;
+mod by_pair;
 pub mod checks;
 pub mod desk;
 pub mod field;
@@ -20,6 +21,8 @@ pub mod record;
 pub mod refusal;
 mod refusal_words;
 pub mod run;
+mod sending_order;
+mod slots;
 pub mod snapshot;
 pub mod sound;
 pub mod standard;

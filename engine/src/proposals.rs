@@ -52,6 +52,15 @@ impl Mix {
         hosts: 2,
     };
 
+    /// Many looks at what several ranks have sent, while ranks move between two
+    /// hosts or restart on theirs, part and end.
+    pub const LOOKS: Mix = Mix {
+        weights: &[2, 40, 60, 60, 20, 8, 5, 30, 12, 12, 4, 90],
+        stray_one_in: 30,
+        most_ended: 12,
+        hosts: 2,
+    };
+
     /// Whether a step names no host but those that starts and moves go to.
     fn has_hosts_of(&self, step: Step) -> bool {
         let mut fields = step.fields();

@@ -24,7 +24,12 @@ impl RankSet {
 
     /// Makes `rank` no member.
     pub fn remove(&mut self, rank: Rank) {
-        self.0 &= !(1 << rank.0);
+        *self = self.without(rank);
+    }
+
+    /// All members but `rank`.
+    pub fn without(self, rank: Rank) -> RankSet {
+        RankSet(self.0 & !(1 << rank.0))
     }
 
     /// Whether there are no members.
@@ -37,8 +42,7 @@ impl RankSet {
         self.0.count_ones()
     }
 
-    /// The lowest member.
-    pub fn lowest(self) -> Option<Rank> {
+    fn lowest(self) -> Option<Rank> {
         (self.0 != 0).then(|| Rank(self.0.trailing_zeros() as u8))
     }
 }

@@ -1,7 +1,7 @@
-//! The plain state of paper 01, "Names and places", with the running numbers of
-//! paper 02, Change 4: everything the desk holds, in types wide enough for
-//! unsound states too. Soundness is defined on it, and a `Desk` is built from a
-//! sound one and written back to one.
+//! The plain state of paper 01, "Names and places", with the running numbers and
+//! the order of sending of paper 02, Changes 4 and 6: everything the desk holds,
+//! in types wide enough for unsound states too. Soundness is defined on it, and
+//! a `Desk` is built from a sound one and written back to one.
 
 use crate::mail::RunningNumber;
 use crate::names::{Host, Rank, Vmid};
@@ -115,8 +115,8 @@ pub struct Snapshot {
     pub awaits: [[Await; Rank::COUNT]; Rank::COUNT],
     /// "A rank has at most one open call."
     pub calls: [Option<Call>; Rank::COUNT],
-    /// The unread messages. Within a pair they stand in order of sending;
-    /// the order between pairs carries no meaning.
+    /// The unread messages in order of sending over all pairs (paper 02, Change
+    /// 6); each pair's stand in its own order of sending with it.
     pub messages: Vec<Message>,
     /// How many messages each ordered pair has sent.
     pub sent: [[RunningNumber; Rank::COUNT]; Rank::COUNT],

@@ -1,6 +1,7 @@
 //! What each accepted step does and answers: paper 01, "The step log", one
-//! function for each kind, in its order, with the running numbers of paper 02,
-//! Change 4. Each assumes that the step passed all checks in this sound state.
+//! function for each kind, in its order, with what paper 02 changes: running
+//! numbers, Change 4, and the look, Change 6. Each assumes that the step passed
+//! all checks in this sound state.
 
 use crate::desk::Desk;
 use crate::mail::Place;
@@ -168,9 +169,10 @@ impl Desk {
         [0; 3]
     }
 
-    /// "Which one is free": the lowest.
+    /// "Look now names the sender of the message sent first of all those unread
+    /// by r, whatever its place" (paper 02, Change 6).
     fn look(&self, r: Rank) -> Values {
-        let sender = self.mail.senders_to(r).lowest();
+        let sender = self.mail.oldest_sender_to(r);
         let sender = sender.expect("check 22: the rank has a message unread");
         [u32::from(sender.0), 0, 0]
     }

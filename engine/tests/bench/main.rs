@@ -141,20 +141,21 @@ fn a_small_run_prints_a_row_for_each_input_and_each_call() {
     assert!(output.status.success() && said.is_empty(), "{said}");
     let printed = String::from_utf8(output.stdout).unwrap();
     let lines: Vec<&str> = printed.lines().collect();
-    assert_eq!(lines.len(), 24, "{printed}");
+    assert_eq!(lines.len(), 25, "{printed}");
     check_row(lines[2], 0.0, 5.0..=20.0);
     check_row(lines[3], 0.0, 250.0..=550.0);
     check_row(lines[4], 0.0, 850.0..=1_024.0);
-    check_row(lines[5], RECORDS, 250.0..=550.0);
-    check_made_up(lines[9]);
-    check_call(lines[13], "`step`, by value");
-    check_call(lines[14], "`step_lent`");
-    check_call(lines[15], "`step_in_place`");
-    check_call(lines[16], "`is_sound`");
-    check_memory(lines[20], "`replay`, proved");
-    check_memory(lines[21], "`engine-replay`, Rust");
-    check_memory(lines[22], "`made_up`, proved");
-    check_memory(lines[23], "`made-up`, Rust");
+    check_row(lines[5], 0.0, 900.0..=1_024.0);
+    check_row(lines[6], RECORDS, 250.0..=550.0);
+    check_made_up(lines[10]);
+    check_call(lines[14], "`step`, by value");
+    check_call(lines[15], "`step_lent`");
+    check_call(lines[16], "`step_in_place`");
+    check_call(lines[17], "`is_sound`");
+    check_memory(lines[21], "`replay`, proved");
+    check_memory(lines[22], "`engine-replay`, Rust");
+    check_memory(lines[23], "`made_up`, proved");
+    check_memory(lines[24], "`made-up`, Rust");
 }
 
 /// With this program by this option, the outputs for this input differ, which

@@ -7,7 +7,7 @@ use crate::log::Log;
 use crate::program::{Input, Program};
 use crate::tally::Tally;
 use crate::{
-    full_pair, garbage, limits, made_up, paper, probes, random, restarts, running_numbers,
+    full_pair, garbage, limits, looks, made_up, paper, probes, random, restarts, running_numbers,
     short_records, two_checks, window,
 };
 use engine::text::decode;
@@ -33,6 +33,7 @@ static LOGS: LazyLock<Vec<Log>> = LazyLock::new(|| {
         two_checks::logs(),
         window::logs(),
         running_numbers::logs(),
+        looks::logs(),
         made_up::logs(),
         full_pair::logs(),
         probes::logs(),

@@ -1,41 +1,21 @@
-//! What this engine prints for a log, which ranks are allowed at its accepted
-//! looks, and the first line in which another printed run differs.
+//! What this engine prints for a log, and the first line in which another
+//! printed run differs.
 
-use engine::rank_set::RankSet;
-use engine::{run_slice, Desk, Refusal, Step};
-use std::collections::HashMap;
+use engine::run_slice;
 
-/// An accepted look: v1 is "a rank with a message unread by r; which one is
-/// free".
-struct Look {
-    position: usize,
-    allowed: RankSet,
-}
-
-impl Look {
-    fn allows(&self, line: &[u8]) -> bool {
-        let position = self.position;
-        self.allowed
-            .into_iter()
-            .any(|rank| line == format!("{position} 0C 0 {} 0 0", rank.0).as_bytes())
-    }
-}
-
-/// The printed run of a log, with its accepted looks by line.
+/// The printed run of a log.
 pub struct Expected {
     pub printed: Vec<u8>,
-    looks: HashMap<usize, Look>,
 }
 
 impl Expected {
     pub fn of(log: &[u8]) -> Expected {
         Expected {
             printed: run_slice(log),
-            looks: accepted_looks(log),
         }
     }
 
-    /// The first line that differs in more than an allowed rank.
+    /// The first line that differs.
     pub fn difference(&self, printed: &[u8]) -> Option<String> {
         if printed == self.printed {
             return None;
@@ -44,12 +24,7 @@ impl Expected {
         let ours = self.printed.split(|&byte| byte == b'\n');
         for (index, line) in ours.enumerate() {
             let other = theirs.next();
-            let allowed = |other| {
-                self.looks
-                    .get(&index)
-                    .is_some_and(|look| look.allows(other))
-            };
-            if !other.is_some_and(|other| other == line || allowed(other)) {
+            if other != Some(line) {
                 return Some(format!(
                     "line {}: expected {}, printed {}",
                     index + 1,
@@ -69,72 +44,49 @@ fn shown(line: Option<&[u8]>) -> String {
     })
 }
 
-fn accepted_looks(log: &[u8]) -> HashMap<usize, Look> {
-    let mut looks = HashMap::new();
-    let mut desk = Desk::fresh();
-    let mut position = 0;
-    for line in 0.. {
-        let outcome = desk.step_sound(log, position as u64);
-        if outcome.answer.is_err_and(Refusal::keeps_position) {
-            break;
-        }
-        if let (Ok((Step::Look { r }, _)), Ok(_)) = (Step::read(&log[position..]), outcome.answer) {
-            let allowed = desk.mail().senders_to(r);
-            looks.insert(line, Look { position, allowed });
-        }
-        position = outcome.next as usize;
-    }
-    looks
-}
-
 mod tests {
     use super::Expected;
     use crate::log::log_of;
     use crate::printed_run::{LISTING, STEPS};
 
-    /// Rank 0 looks with messages of 1 and 3, but not 2, unread.
+    /// Rank 0 looks with messages of 3 and 1, but not 2, unread: 3 sent first.
     const LOOKING: &str = "start 0 0, start 1 1, start 2 2, start 3 3, call 1 0, route 1 0, \
-        call 3 0, route 3 0, send 1 0 7, send 3 0 8, look 0, look 1, take 0 1";
+        call 3 0, route 3 0, send 3 0 8, send 1 0 7, look 0, look 1, take 0 3";
 
-    fn looking_with(line: &str) -> Option<String> {
+    fn looking_with(of_look: &str, line: &str) -> Option<String> {
         let expected = Expected::of(&log_of(LOOKING));
         let printed = String::from_utf8(expected.printed.clone()).unwrap();
-        assert!(printed.contains("\n38 0C 0 1 0 0\n"), "{printed}");
-        let other = printed.replace("38 0C 0 1 0 0", line);
+        assert!(printed.contains(&format!("\n{of_look}\n")), "{printed}");
+        let other = printed.replace(of_look, line);
         expected.difference(other.as_bytes())
     }
 
+    /// "The printed rank is compared exactly from here" (paper 02, Change 6).
     #[test]
-    fn any_allowed_rank_of_a_look_passes() {
-        assert_eq!(looking_with("38 0C 0 1 0 0"), None);
-        assert_eq!(looking_with("38 0C 0 3 0 0"), None);
-    }
-
-    #[test]
-    fn nothing_else_passes_at_a_look() {
+    fn a_look_names_the_oldest_and_nobody_else() {
+        let looked = "38 0C 0 3 0 0";
+        assert_eq!(looking_with(looked, looked), None);
         for line in [
+            "38 0C 0 1 0 0",
             "38 0C 0 0 0 0",
             "38 0C 0 2 0 0",
             "38 0C 0 4 0 0",
             "38 0C 0 16 0 0",
-            "38 0C 0 01 0 0",
+            "38 0C 0 03 0 0",
             "38 0C 0 3 1 0",
             "38 0C 0 3 0 0 ",
             "38 0C 22 0 0 0",
             "39 0C 0 3 0 0",
             "38 0C 0 3 0 0\n38 0C 0 3 0 0",
         ] {
-            assert!(looking_with(line).is_some(), "{line}");
+            assert!(looking_with(looked, line).is_some(), "{line}");
         }
     }
 
     #[test]
-    fn a_refused_look_leaves_no_choice() {
-        let expected = Expected::of(&log_of(LOOKING));
-        let printed = String::from_utf8(expected.printed.clone()).unwrap();
-        let other = printed.replace("40 0C 22 0 0 0", "40 0C 0 0 0 0");
-        assert_ne!(other, printed);
-        assert!(expected.difference(other.as_bytes()).is_some());
+    fn a_refused_look_names_nobody() {
+        let refused = "40 0C 22 0 0 0";
+        assert!(looking_with(refused, "40 0C 0 0 0 0").is_some());
     }
 
     #[test]

@@ -1,6 +1,5 @@
 //! Runs a second program on the same logs as this engine and compares what
-//! they print: paper 01, "The printed run", every byte of it. Only the rank of
-//! an accepted look is free; it is tested for being allowed. The program is
+//! they print: paper 01, "The printed run", every byte of it. The program is
 //! the one that `REPLAY` names, else `../target/bin/replay`.
 
 mod alike;
@@ -12,6 +11,7 @@ mod full_pair;
 mod garbage;
 mod limits;
 mod log;
+mod looks;
 mod made_up;
 #[path = "../shared/made_up_log.rs"]
 mod made_up_log;

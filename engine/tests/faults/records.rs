@@ -3,7 +3,7 @@
 use crate::printed_run::STEPS;
 use engine::proposals::{random_log, Mix};
 use engine::text::encode;
-use engine::{Kind, Step};
+use engine::Step;
 use std::fs::{self, File};
 use std::path::PathBuf;
 
@@ -12,13 +12,9 @@ pub fn listing_log() -> Vec<u8> {
     encode(&STEPS.replace(", ", "\n")).unwrap()
 }
 
-/// A log whose run is some ten times what a pipe or a page holds. There is no
-/// look in it, whose rank is free.
+/// A log whose run is some ten times what a pipe or a page holds.
 pub fn long_log() -> Vec<u8> {
-    let log = random_log(30, Mix::TRAFFIC, 40_000);
-    let is_look = |record: &[u8]| record[0] == Kind::Look as u8;
-    let kept = records(&log).into_iter().filter(|record| !is_look(record));
-    kept.flatten().copied().collect()
+    random_log(30, Mix::TRAFFIC, 40_000)
 }
 
 /// The records of a log of whole ones.

@@ -16,7 +16,6 @@ struct Expected {
     texts: BTreeMap<(&'static str, String), usize>,
     dots: usize,
     diamonds: usize,
-    /// Whom a look sees is free.
     looks: usize,
 }
 
@@ -33,7 +32,10 @@ impl Expected {
             Step::Take { .. } => self.text("taken", v1),
             Step::Drain { .. } if v1 == 0 => self.text("drained", v2),
             Step::End { .. } => self.text("faint middle", "ended"),
-            Step::Look { .. } => self.looks += 1,
+            Step::Look { .. } => {
+                self.looks += 1;
+                self.text("faint middle", format!("sees {v1}"));
+            }
             Step::Send { a, b, value } => {
                 self.text(if a < b { "begin" } else { "end" }, value);
             }
@@ -116,8 +118,8 @@ fn assert_shows(picture: &str, log: &[u8], name: &str) {
             "{name}: {text} is there {found} times as {class}, not {times}"
         );
     }
-    assert_eq!(picture.matches("<circle ").count(), expected.dots, "{name}");
     assert_eq!(picture.matches(">sees ").count(), expected.looks, "{name}");
+    assert_eq!(picture.matches("<circle ").count(), expected.dots, "{name}");
     let diamonds = picture.matches(" l5,5 ").count();
     assert_eq!(diamonds, expected.diamonds + 1, "{name}");
 }

@@ -6,7 +6,8 @@ use crate::feigned_program::root_with;
 use engine::text::encode;
 use std::process::Command;
 
-const TEXT: &str = "start 0 0\nstart 1 1\nstart 2 0\ncall 0 1\nroute 0 1\nsend 0 1 5\nlook 1\n";
+const TEXT: &str = "start 0 0\nstart 1 1\nstart 2 0\ncall 0 1\nroute 0 1\ncall 2 1\nroute 2 1\n\
+    send 2 1 6\nsend 0 1 5\nlook 1\n";
 
 const RUN: &str = "\
 0 01 0 0 1 0
@@ -14,9 +15,13 @@ const RUN: &str = "\
 6 01 0 0 2 0
 9 02 0 1 1 0
 12 03 0 0 1 1
-15 04 0 1 0 0
-22 0C 0 0 0 0
+15 02 0 1 1 0
+18 03 0 0 1 1
+21 04 0 1 0 0
+28 04 0 1 0 0
+35 0C 0 2 0 0
 pair 0 1 0 0 0 1
+pair 2 1 0 0 0 1
 end
 ";
 
@@ -36,9 +41,10 @@ fn only_the_proved_run_is_drawn() {
     for (line, other) in [
         ("3 01 0 1 1 0", "3 01 0 1 2 0"),
         ("3 01 0 1 1 0", "3 01 8 0 0 0"),
-        ("15 04 0 1 0 0", "15 04 0 2 0 0"),
-        ("22 0C 0 0 0 0", "22 0C 0 2 0 0"),
-        ("22 0C 0 0 0 0", "22 0C 22 0 0 0"),
+        ("21 04 0 1 0 0", "21 04 0 2 0 0"),
+        ("35 0C 0 2 0 0", "35 0C 0 0 0 0"),
+        ("35 0C 0 2 0 0", "35 0C 0 1 0 0"),
+        ("35 0C 0 2 0 0", "35 0C 22 0 0 0"),
         ("pair 0 1 0 0 0 1", "pair 0 1 0 0 1 0"),
         ("pair 0 1 0 0 0 1", "pair 0 2 0 0 0 1"),
         ("pair 0 1 0 0 0 1", "pair 0 16 0 0 0 1"),

@@ -1,9 +1,8 @@
 //! How often a run gave the values of paper 02, Change 4: "A take gives it as v3,
 //! and a drain that moves a message does too."
 
-use super::restarts::is_restart;
-use engine::rank_set::RankSet;
-use engine::{Desk, Rank, Step, Values};
+use super::past::{moving, Past};
+use engine::{Desk, Step, Values};
 
 /// A rank moves, two or more do, the two ranks have parted before, and one of
 /// them has restarted.
@@ -40,40 +39,16 @@ pub struct RunningNumbers {
     end_markers: Counts,
     /// The situations of the step that is being made.
     met: [bool; SITUATIONS],
-    /// For each rank, those that it has parted from.
-    parted: [RankSet; Rank::COUNT],
-    /// The ranks that have restarted.
-    restarted: RankSet,
 }
 
 impl RunningNumbers {
     /// Looks at a step that is accepted, before it is made.
-    pub fn note_before(&mut self, desk: &Desk, step: Step) {
-        match step {
-            Step::Start { r, .. } => self.forget(r),
-            Step::Move { r, h } if is_restart(desk, r, h) => self.restarted.insert(r),
-            Step::Part { a, b } => {
-                self.parted[a.index()].insert(b);
-                self.parted[b.index()].insert(a);
-            }
-            Step::Take { b: r, a: s } | Step::Drain { r, s } => {
-                let moving = Rank::all().filter(|&rank| desk.standing(rank).is_moving());
-                let moving = moving.count();
-                let parted = self.parted[r.index()].contains(s);
-                let restarted = self.restarted.contains(r) || self.restarted.contains(s);
-                self.met = [moving >= 1, moving >= 2, parted, restarted];
-            }
-            _ => {}
+    pub fn note_before(&mut self, desk: &Desk, step: Step, past: &Past) {
+        if let Step::Take { b: r, a: s } | Step::Drain { r, s } = step {
+            let moving = moving(desk);
+            let (parted, restarted) = (past.have_parted(r, s), past.has_restarted(r, s));
+            self.met = [moving >= 1, moving >= 2, parted, restarted];
         }
-    }
-
-    /// A rank is started once in a log: nothing is known of it from another.
-    fn forget(&mut self, rank: Rank) {
-        self.restarted.remove(rank);
-        self.parted[rank.index()] = RankSet::EMPTY;
-        self.parted
-            .iter_mut()
-            .for_each(|others| others.remove(rank));
     }
 
     /// Looks at an accepted step after it is made.

@@ -1,16 +1,21 @@
 //! How often a run came into the situations of paper 01 that are easy to get
 //! wrong: overlapping moves, lines that are notices, calls that miss, limits;
-//! into those of a restart and of a full pair; and to which running numbers.
+//! into those of a restart and of a full pair; to which running numbers, and to
+//! which looks.
 
 mod full_pairs;
+mod looks;
+mod past;
 mod restarts;
 mod running_numbers;
 
 pub use full_pairs::FullPairs;
+pub use looks::Looks;
 pub use restarts::Restarts;
 pub use running_numbers::RunningNumbers;
 
 use engine::{Desk, Kind, Line, Rank, Refusal, Step, Values};
+use past::Past;
 
 /// The counts, each of steps; a step may count in several.
 #[derive(Clone, Debug, Default)]
@@ -29,20 +34,24 @@ pub struct Situations {
     pub restarts: Restarts,
     pub full_pairs: FullPairs,
     pub running_numbers: RunningNumbers,
+    pub looks: Looks,
+    past: Past,
 }
 
 impl Situations {
     /// Looks at a step before it is made.
     pub fn note_before(&mut self, desk: &Desk, step: Step) {
         let moving = |rank: Rank| desk.standing(rank).is_moving();
-        let count = Rank::all().filter(|&rank| moving(rank)).count();
+        let count = past::moving(desk);
         self.two_moving += u64::from(count >= 2);
         self.four_moving += u64::from(count >= 4);
         let checked = desk.check(step);
         if checked.is_ok() {
             self.restarts.note(desk, step);
             self.full_pairs.note(desk, step);
-            self.running_numbers.note_before(desk, step);
+            self.past.note(desk, step);
+            self.running_numbers.note_before(desk, step, &self.past);
+            self.looks.note(desk, step, &self.past);
         }
         match (step, checked) {
             (Step::Send { .. }, Err(Refusal::DeskFull)) => self.refused_full += 1,
@@ -100,7 +109,7 @@ impl Situations {
             ("sends to a full desk", self.refused_full),
         ];
         let (restarts, full_pairs) = (self.restarts.rows(), self.full_pairs.rows());
-        let running_numbers = self.running_numbers.rows();
-        [&rows[..], &restarts, &full_pairs, &running_numbers].concat()
+        let (running_numbers, looks) = (self.running_numbers.rows(), self.looks.rows());
+        [&rows[..], &restarts, &full_pairs, &running_numbers, &looks].concat()
     }
 }

@@ -1,7 +1,7 @@
 //! The tests of the second engine, one module for each idea: paper 01's
 //! listing and edges, every refusal, soundness, order within pairs, and logs
-//! of any bytes and any length; paper 02's made-up passes, restarts, full pairs
-//! and running numbers.
+//! of any bytes and any length; paper 02's made-up passes, restarts, full pairs,
+//! running numbers and looks.
 
 #[path = "../shared/check_table.rs"]
 mod check_table;
@@ -10,6 +10,7 @@ mod full_pair;
 mod listing;
 mod logs;
 mod long_input;
+mod looks;
 mod made_up;
 #[path = "../shared/made_up_log.rs"]
 mod made_up_log;

@@ -92,13 +92,17 @@ impl Reached {
     }
 }
 
-/// Checks a list step by step, and gives the desk that it leaves.
+/// Checks a long list step by step, and gives the desk that it leaves.
 fn run(seed: u64, mix: Mix, reached: &mut Reached) -> Desk {
+    run_for(STEPS, seed, mix, reached)
+}
+
+fn run_for(steps: usize, seed: u64, mix: Mix, reached: &mut Reached) -> Desk {
     let mut proposer = Proposer::new(seed, mix);
     let mut desk = Desk::fresh();
     let mut history = History::new();
     let mut record = Vec::new();
-    for _ in 0..STEPS {
+    for _ in 0..steps {
         let step = proposer.propose(&desk);
         reached.situations.note_before(&desk, step);
         record.clear();
@@ -128,6 +132,9 @@ fn random_steps_keep_soundness_and_order() {
     }
     for seed in 10..12 {
         run(seed, Mix::RESTARTS, &mut reached);
+    }
+    for seed in 12..52 {
+        run_for(500, seed, Mix::LOOKS, &mut reached);
     }
     reached.check();
 }

@@ -54,7 +54,7 @@ const TOLD: &str = "\
 77 0A 0 1 1 0
     part 0 1: rank 0 and rank 1 part, and no line stands between them; 1 message goes from the lane to rank 0's list, 1 message to rank 1's.
 80 0C 0 0 0 0
-    look 1: rank 1 looks: a message from rank 0 is unread.
+    look 1: rank 1 looks: of all messages unread by it, the one sent first is from rank 0.
 82 05 0 4294967295 1 1
     take 1 0: rank 1 takes 4294967295, the first unread message from rank 0, with running number 1; 1 message of the pair is left.
 85 05 0 12 0 2

@@ -37,12 +37,6 @@ fn printed_and_peak(child: &mut Child) -> (Vec<u8>, u64) {
     (printed, peak)
 }
 
-/// A line of the run without the rank that a look tells, which is free.
-fn without_look(line: &[u8]) -> &[u8] {
-    let is_look = line.windows(6).position(|part| part == b" 0C 0 ");
-    is_look.map_or(line, |at| &line[..at])
-}
-
 #[test]
 fn a_million_records_are_told_in_little_time_and_memory() {
     let log = random_log(41, Mix::BROAD, RECORDS);
@@ -60,5 +54,5 @@ fn a_million_records_are_told_in_little_time_and_memory() {
     let run = told.filter(|line| !line.starts_with(b" "));
     let expected = run_slice(&log);
     let expected = expected.split(|&byte| byte == b'\n');
-    assert!(run.map(without_look).eq(expected.map(without_look)));
+    assert!(run.eq(expected));
 }

@@ -11,6 +11,7 @@ mod feigned_program;
 mod inputs;
 mod joining;
 mod long_log;
+mod looking;
 mod moving;
 #[path = "../shared/peak_memory.rs"]
 mod peak_memory;

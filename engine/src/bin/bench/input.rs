@@ -1,5 +1,6 @@
 //! The inputs, each with a name for the table, and what their records come to.
 
+use crate::looks::looks_log;
 use crate::pass::Pass;
 use crate::refused::refused_log;
 use engine::{Desk, Mail, Rank};
@@ -11,7 +12,7 @@ pub struct Input {
 }
 
 /// The inputs with at least so many records each.
-pub fn inputs(records: usize) -> [Input; 4] {
+pub fn inputs(records: usize) -> [Input; 5] {
     [
         Input {
             name: "a pass with moves, few unread",
@@ -24,6 +25,10 @@ pub fn inputs(records: usize) -> [Input; 4] {
         Input {
             name: "a pass with moves, nearly 1,024 unread",
             log: pass_log(records, Mail::LIMIT - 24, Mail::LIMIT),
+        },
+        Input {
+            name: "looks, takes and sends at a full desk",
+            log: looks_log(records, 4),
         },
         Input {
             name: "refused records",

@@ -8,6 +8,7 @@
 mod calls;
 mod cost;
 mod input;
+mod looks;
 mod made_up;
 mod measure;
 mod options;

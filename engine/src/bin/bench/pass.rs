@@ -139,7 +139,8 @@ impl Pass {
         Host((here.0 + further) % Host::COUNT as u8)
     }
 
-    fn any_rank(&mut self) -> Rank {
+    /// Any of the sixteen.
+    pub fn any_rank(&mut self) -> Rank {
         Rank(self.bits.below(Rank::COUNT as u32) as u8)
     }
 }

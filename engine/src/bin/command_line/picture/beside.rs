@@ -4,7 +4,7 @@
 use crate::failure::Failure;
 use crate::steps::{Pair, Told};
 use engine::refusal::{count_value, number_of, values_of};
-use engine::{Desk, Rank, Step};
+use engine::{Desk, Rank};
 
 /// A desk of the second engine that takes the steps of a run.
 pub struct Beside {
@@ -37,19 +37,8 @@ impl Beside {
         self.record.clear();
         step.write(&mut self.record);
         let answer = self.desk.step_sound(&self.record, 0).answer;
-        let same = number_of(&answer) == told.number
-            && match step {
-                Step::Look { r } if told.number == 0 => self.may_see(r, told.values),
-                _ => values_of(&answer) == told.values,
-            };
+        let same = number_of(&answer) == told.number && values_of(&answer) == told.values;
         same.then_some(()).ok_or_else(|| differs(&told.text))
-    }
-
-    /// Whether a look may have these values: which sender it sees is free.
-    fn may_see(&self, r: Rank, values: [u32; 3]) -> bool {
-        let senders = self.desk.mail().senders_to(r);
-        let mut allowed = senders.into_iter().map(|sender| [sender.0.into(), 0, 0]);
-        allowed.any(|allowed| allowed == values)
     }
 
     /// Fails where the unread messages of a pair are elsewhere.

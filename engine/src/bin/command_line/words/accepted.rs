@@ -1,5 +1,6 @@
 //! What an accepted record did, in the words of paper 01, "The step log", with
-//! the running number of a message that is drained or taken.
+//! the running number of a message that is drained or taken, and whose message
+//! is the oldest at a look.
 
 use super::counted::{messages, of_the_pair, verb};
 use super::open_moves::{End, OpenMoves};
@@ -21,7 +22,7 @@ pub fn sentences(step: Step, values: Values, moves: &OpenMoves) -> String {
         Step::Land { r } => land(r, v1),
         Step::Part { a, b } => part(a, b, v1, v2),
         Step::End { r } => format!("rank {} ends; it keeps its last vmid.", r.0),
-        Step::Look { r } => format!("rank {} looks: a message from rank {v1} is unread.", r.0),
+        Step::Look { r } => look(r, v1),
     }
 }
 
@@ -148,5 +149,11 @@ fn into_list(count: u32, rank: u8) -> String {
     format!(
         "{} {go} from the lane to rank {rank}'s list",
         messages(count)
+    )
+}
+
+fn look(Rank(r): Rank, sender: u32) -> String {
+    format!(
+        "rank {r} looks: of all messages unread by it, the one sent first is from rank {sender}."
     )
 }
