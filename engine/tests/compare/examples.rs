@@ -22,7 +22,7 @@ fn texts() -> Vec<PathBuf> {
 #[test]
 fn every_example_prints_its_stored_run() {
     let texts = texts();
-    assert!(texts.len() >= 10, "only {} examples", texts.len());
+    assert!(texts.len() >= 11, "only {} examples", texts.len());
     let program = Program::find();
     for text in texts {
         let name = text.display();
