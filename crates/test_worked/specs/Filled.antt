@@ -68,7 +68,7 @@ module _ (a b v : ℕ) where
         let passes = send-accepted s (rank a) (rank b) v
         (record { two = fits .two; running = fits .running; line = rw (fits .line); room = room; numbered = omega arith }) in
         rw (fits .line, appends (s .unread) (rank a) (rank b) Channel v room) at
-        (sound-kept (rank 0) s (Send (rank a) (rank b) v) h passes)
+        (sound-kept s (Send (rank a) (rank b) v) h passes)
 
     -- The others have room as before.
     one-less : Sendable a b n (grown s)
