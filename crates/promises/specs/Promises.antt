@@ -531,10 +531,10 @@ kinds-of-steps =
     -- 0B end: "r is ended."
     (three ++ end 2 ++ look 2) prints (three-lines ++ "9 0B 0 0 0 0" ∷ "11 0C 9 0 0 0" ∷ "end" ∷ []) ∷
     -- Paper 02, change 6, 0C look: "Look now names the sender of the message sent first of all those unread by r, whatever its place.": of
-    -- rank 2, though rank 0 is lower and its younger message at a lower place, and though rank 0 has an older message unread
-    (three ++ join ++ call 2 1 ++ route 2 1 ++ send 1 0 5 ++ send 2 1 10 ++ send 0 1 20 ++ part 0 1 ++ look 1 ++ take 1 2 ++ look 1) prints
-    (three-lines ++ join-lines ++ "15 02 0 5 2 0" ∷ "18 03 0 0 5 2" ∷ "21 04 0 1 0 0" ∷ "28 04 0 1 0 0" ∷ "35 04 0 1 0 0" ∷
-    "42 0A 0 1 1 0" ∷ "45 0C 0 2 0 0" ∷ "47 05 0 10 0 1" ∷ "50 0C 0 0 0 0" ∷ "pair 0 1 0 0 1 0" ∷ "pair 1 0 0 0 1 0" ∷ "end" ∷ []) ∷ []
+    -- rank 2, though rank 1 is lower and its younger message at a lower place, and though rank 1 has an older message unread
+    (three ++ join ++ call 2 0 ++ route 2 0 ++ send 0 1 5 ++ send 2 0 10 ++ send 1 0 20 ++ part 0 1 ++ look 0 ++ take 0 2 ++ look 0) prints
+    (three-lines ++ join-lines ++ "15 02 0 5 1 0" ∷ "18 03 0 0 5 1" ∷ "21 04 0 1 0 0" ∷ "28 04 0 1 0 0" ∷ "35 04 0 1 0 0" ∷
+    "42 0A 0 1 1 0" ∷ "45 0C 0 2 0 0" ∷ "47 05 0 10 0 1" ∷ "50 0C 0 1 0 0" ∷ "pair 0 1 0 0 1 0" ∷ "pair 1 0 0 0 1 0" ∷ "end" ∷ []) ∷ []
   where
     three : List ℕ
     three = start 0 5 ++ start 1 5 ++ start 2 6

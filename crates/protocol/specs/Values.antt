@@ -234,21 +234,21 @@ abbrev pub end : Edge
 end = record { steps = opening ++ answers (Kind.end ∷ 2 ∷ []) 0 0 0 ∷ []; then = λ s. isEnded (status s (rank 2)) }
 
 -- 0C: paper 02, change 6: "Look now names the sender of the message sent first of all those unread by r, whatever its place.": rank 2,
--- though rank 0 is lower and its younger message in the list, and though rank 0 has an older message unread; and then rank 0
+-- though rank 1 is lower and its younger message in the list, and though rank 1 has an older message unread; and then rank 1
 abbrev pub look : Edge
 look =
     record {
       steps =
           opening ++
           joining 0 1 ++
-          joining 2 1 ++
-          sending 1 0 5 ∷
-          sending 2 1 10 ∷
-          sending 0 1 20 ∷
+          joining 2 0 ++
+          sending 0 1 5 ∷
+          sending 2 0 10 ∷
+          sending 1 0 20 ∷
           accepts (Kind.part ∷ 0 ∷ 1 ∷ []) ∷
-          answers (Kind.look ∷ 1 ∷ []) 2 0 0 ∷
-          accepts (Kind.take ∷ 1 ∷ 2 ∷ []) ∷
-          answers (Kind.look ∷ 1 ∷ []) 0 0 0 ∷ [];
+          answers (Kind.look ∷ 0 ∷ []) 2 0 0 ∷
+          accepts (Kind.take ∷ 0 ∷ 2 ∷ []) ∷
+          answers (Kind.look ∷ 0 ∷ []) 1 0 0 ∷ [];
       then = answered;
     }
 
