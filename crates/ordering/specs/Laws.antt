@@ -10,6 +10,3 @@ pub mod Second
 pub mod Ordering
 pub mod Open
 pub mod Counts
-pub mod Oldest
-pub mod Served
-pub mod Named

@@ -9,4 +9,3 @@ pub mod Overlapping
 pub mod Restarts
 pub mod Full
 pub mod Numbers
-pub mod Served

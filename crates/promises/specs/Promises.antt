@@ -19,6 +19,11 @@ use Rattle.answer.specs.declared.Refusal.the-variants.{Unsound, UnknownKind, Cu
 use Rattle.base.specs.Lists.{every, select, tally, upFrom}
 use Rattle.broker.specs.Names
 use Rattle.broker.specs.State.{State, fresh, status, request, drawnOn, messages, nextVmid}
+use Rattle.fairness.specs.Laws.Named.{named-can-be-taken}
+use Rattle.fairness.specs.Laws.Sending.{kept-in-order}
+use Rattle.fairness.specs.Laws.Served.{look-names-first, served}
+use Rattle.fairness.specs.Sending.{lettersSent, lessAllTaken}
+use Rattle.fairness.specs.Served.{goesByLooks, lettersTaken}
 use Rattle.generator.specs.Answer.{makes}
 use Rattle.generator.specs.Laws.Answer.{equal-seeds, in-two-parts}
 use Rattle.generator.specs.Laws.Read.{made-holds}
@@ -45,14 +50,10 @@ use Rattle.ordering.specs.Claim.{
   areBytes,
 }
 use Rattle.ordering.specs.Laws.Counts.{count-never-passes}
-use Rattle.ordering.specs.Laws.Named.{named-can-be-taken}
 use Rattle.ordering.specs.Laws.Numbers.{numbered}
-use Rattle.ordering.specs.Laws.Oldest.{kept-in-order}
 use Rattle.ordering.specs.Laws.Open.{everyMoveLanded, no-move-open-by-the-list}
 use Rattle.ordering.specs.Laws.Ordering.{ordering}
 use Rattle.ordering.specs.Laws.Runs.{fresh-sound, sound-after}
-use Rattle.ordering.specs.Laws.Served.{look-names-first, served}
-use Rattle.ordering.specs.Oldest.{lettersSent, lessAllTaken, goesByLooks, lettersTaken}
 use Rattle.print_page.specs.Ascii.{asciiLines}
 use Rattle.print_run.specs.Laws.Pieces.{run-in-pieces, printed-in-pieces}
 use Rattle.print_run.specs.Laws.Readings.{readings, readings-run}

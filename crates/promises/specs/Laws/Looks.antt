@@ -14,7 +14,7 @@ use Rattle.base.specs.Lists.{tally}
 use Rattle.broker.specs.Names.{isRunning}
 use Rattle.broker.specs.State.{State, status, messages}
 use Rattle.ordering.specs.Claim.{Entry}
-use Rattle.ordering.specs.Oldest.{goesByLooks}
+use Rattle.fairness.specs.Served.{goesByLooks}
 use Rattle.protocol.specs.Checks.{refusal}
 use Rattle.protocol.specs.Laws.Accepted.{look-fits, started-of-running}
 use Rattle.protocol.specs.Laws.Accepts.{look-accepted}

@@ -13,12 +13,13 @@ use Rattle.protocol.specs.Sound.{sound}
 use Rattle.broker.specs.State.{State, fresh}
 use Rattle.record.specs.declared.Record.{Record}
 use Rattle.record.specs.declared.Record.the-variants.{Start, Call, Route, Send, Take, Move, Heed, Drain, Land, Part, Look}
 use Rattle.ordering.specs.Claim.{Reading, after, accepted}
 use Rattle.ordering.specs.Laws.Runs.{fresh-sound, sound-after}
-use Rattle.ordering.specs.Laws.Served.{served}
-use Rattle.ordering.specs.Oldest.{letters, lettersSent, goesByLooks, lettersTaken, Served}
+use Rattle.fairness.specs.Laws.Served.{served}
+use Rattle.fairness.specs.Sending.{letters, lettersSent}
+use Rattle.fairness.specs.Served.{goesByLooks, lettersTaken, Served}
 use Rattle.ordering.specs.Worked.Account.{Account, account, computed, computedFrom, from-fresh, from-sound}
 use Rattle.ordering.specs.Worked.Result.{whole, written}
 
 abbrev run : List Record → List Reading
 run = map (λ (r : Record). whole (written r))

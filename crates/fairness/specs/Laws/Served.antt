@@ -44,39 +44,26 @@ use Rattle.broker.specs.State.{State, messages}
 use Rattle.protocol.specs.Step.{apply}
 use Rattle.record.specs.declared.Record.{Record}
 use Rattle.record.specs.declared.Record.the-variants.{Start, Call, Route, Send, Take, Move, Heed, Drain, Land, Part, End, Look}
 use Rattle.ordering.specs.Claim.{Reading, Entry, after, accepted}
-use Rattle.ordering.specs.Laws.Oldest.{step-letters, step-counts}
+use Rattle.fairness.specs.Laws.Sending.{step-letters, step-counts}
 use Rattle.ordering.specs.Laws.Runs.{entry, along}
-use Rattle.ordering.specs.Oldest.{
-  firstIn,
-  secondIn,
-  letters,
-  posted,
-  countsAfter,
-  lettersSent,
-  lessTaken,
-  isLookOf,
-  isTakeOf,
-  goesByLooks,
-  lettersTaken,
-  sentSince,
-  Served,
-}
+use Rattle.fairness.specs.Sending.{firstIn, secondIn, letters, posted, countsAfter, lettersSent, lessTaken}
+use Rattle.fairness.specs.Served.{isLookOf, isTakeOf, goesByLooks, lettersTaken, sentSince, Served}
 
 module _ (r : Rank) where
   -- what is unread by r, in order of sending
-  abbrev mine : State → List Message
-  mine s = select (to r) (letters s)
+  abbrev unreadBy : State → List Message
+  unreadBy s = select (to r) (letters s)
 
   -- what accepted steps send to r
-  abbrev toMe : List Entry → List ℕ → List Message
-  toMe es counts = select (to r) (lettersSent counts es)
+  abbrev sentTo : List Entry → List ℕ → List Message
+  sentTo es counts = select (to r) (lettersSent counts es)
 
   -- the first of what is unread by r is from the rank of a number
   pub record FirstFrom (s : State) (n : ℕ) : Type 0 where
     pub first : Message
     pub rest : List Message
-    pub stands : mine s ≡ first ∷ rest
+    pub stands : unreadBy s ≡ first ∷ rest
     pub sender : first .sender .0 ≡ n
 
   -- the rank that a look named, where no take of r has followed it, is that of the first
@@ -85,7 +72,8 @@ module _ (r : Rank) where
   Pending (some n) s = FirstFrom s n
 
   -- What stands first stays first where more is sent.
-  stays-first : (named : Option ℕ) (s s' : State) (more : List Message) → mine s' ≡ mine s ++ more → Pending named s → Pending named s'
+  stays-first : (named : Option ℕ) (s s' : State) (more : List Message) → unreadBy s' ≡ unreadBy s ++ more →
+      Pending named s → Pending named s'
   unfolding Pending
   stays-first none s s' more e first = tt
   stays-first (some n) s s' more e x =
@@ -102,9 +90,9 @@ module _ (r : Rank) where
 
   module _ (s : State) (h : sound s ≡ true) where
     -- An accepted record that is no take of r leaves what is unread by r, and what it sends to r behind it.
-    others-mine : (x : Record) → refusal s x ≡ none → (is (Kind.take ∷ []) x && sameRank (firstIn x) r) ≡ false →
-        mine (apply x s .state) ≡ mine s ++ select (to r) (posted (s .unread .sent) x)
-    others-mine x p apart =
+    others-leave : (x : Record) → refusal s x ≡ none → (is (Kind.take ∷ []) x && sameRank (firstIn x) r) ≡ false →
+        unreadBy (apply x s .state) ≡ unreadBy s ++ select (to r) (posted (s .unread .sent) x)
+    others-leave x p apart =
         let new = posted (s .unread .sent) x in
         let left : letters (apply x s .state) ≡ lessTaken x (letters s ++ new) =
         sym (append-nil (letters (apply x s .state))) ∙ sym (step-letters s x h p []) ∙
@@ -113,7 +101,7 @@ module _ (r : Rank) where
 
     -- A take of r from the rank of the first takes the first.
     pub own-take : (a : Rank) → refusal s (Take r a) ≡ none → FirstFrom s (a .0) →
-        mine s ≡ message a r EndList (take r a s .values .0) (take r a s .values .2) ∷ mine (apply (Take r a) s .state)
+        unreadBy s ≡ message a r EndList (take r a s .values .0) (take r a s .values .2) ∷ unreadBy (apply (Take r a) s .state)
     own-take a p x =
         let from : x .first .sender ≡ a = ap (λ (n : ℕ). record { 0 = n }) (x .sender) in
         let passes : to r (x .first) ≡ true = both-left _ _ (rw (x .stands) at (every-selected (to r) (letters s))) in
@@ -123,7 +111,7 @@ module _ (r : Rank) where
         let answered = take-letter s r a h (take-fits s r a p) in
         let same : x .first ≡ message a r EndList (take r a s .values .0) (take r a s .values .2) =
         head-eq-of-cons-eq (sym (narrower .1) ∙ answered .1) in
-        let left : mine (apply (Take r a) s .state) ≡ x .rest =
+        let left : unreadBy (apply (Take r a) s .state) ≡ x .rest =
         ap (λ (c : Core). select (to r) (c .letters)) (core-step s (Take r a) h p) ∙
         without-same (to r) (between a r) within (letters s) ∙ rw (x .stands, own) in
         x .stands ∙ rw (same, left)
@@ -147,7 +135,7 @@ module _ (r : Rank) where
   Serves : State → List Entry → State → Type 0
   Serves s es end =
       (named : Option ℕ) → Pending named s → goesByLooks r named es ≡ true →
-      lettersTaken r es ++ mine end ≡ mine s ++ toMe es (s .unread .sent)
+      lettersTaken r es ++ unreadBy end ≡ unreadBy s ++ sentTo es (s .unread .sent)
 
   module _ (s : State) (h : sound s ≡ true) (es : List Entry) (end : State) where
     -- A record that is no look and no take of r.
@@ -156,12 +144,12 @@ module _ (r : Rank) where
     unfolding Serves
     others-serve x p no-look no-take rest named first goes =
         let new = select (to r) (posted (s .unread .sent) x) in
-        let there = others-mine s h x p no-take in
+        let there = others-leave s h x p no-take in
         rw (no-take, select-append (to r) (posted (s .unread .sent) x) (lettersSent (countsAfter (s .unread .sent) x) es))
         (rest named (stays-first named s (apply x s .state) new there first) (rw (no-look, no-take) at goes) ∙
-        ap (λ (l : List Message). l ++ toMe es (apply x s .state .unread .sent)) there ∙
-        append-assoc (mine s) new (toMe es (apply x s .state .unread .sent)) ∙
-        ap (λ (c : List ℕ). mine s ++ (new ++ toMe es c)) (sym (step-counts s x h p)))
+        ap (λ (l : List Message). l ++ sentTo es (apply x s .state .unread .sent)) there ∙
+        append-assoc (unreadBy s) new (sentTo es (apply x s .state .unread .sent)) ∙
+        ap (λ (c : List ℕ). unreadBy s ++ (new ++ sentTo es c)) (sym (step-counts s x h p)))
 
     -- A look of r: the rank that it names is that of the first.
     look-serves : refusal s (Look r) ≡ none → Serves (apply (Look r) s .state) es end → Serves s (entry (Look r) s ∷ es) end
@@ -182,8 +170,8 @@ module _ (r : Rank) where
         let own = own-take s h a p (rw is-named first) in
         rw (sameRank-self r)
         (ap (λ (l : List Message). taken ∷ l)
-        (behind ∙ ap (λ (c : List ℕ). mine (apply (Take r a) s .state) ++ toMe es c) (sym (step-counts s (Take r a) h p))) ∙
-        ap (λ (l : List Message). l ++ toMe es (s .unread .sent)) (sym own))
+        (behind ∙ ap (λ (c : List ℕ). unreadBy (apply (Take r a) s .state) ++ sentTo es c) (sym (step-counts s (Take r a) h p))) ∙
+        ap (λ (l : List Message). l ++ sentTo es (s .unread .sent)) (sym own))
 
     serves-step : (x : Record) → refusal s x ≡ none → Serves (apply x s .state) es end → Serves s (entry x s ∷ es) end
     serves-step (Start q k) p rest = others-serve (Start q k) p refl refl rest
@@ -213,7 +201,7 @@ module _ (r : Rank) where
   serves : (xs : List Reading) (s : State) → sound s ≡ true → Serves s (accepted s xs) (after s xs)
   unfolding Serves
   serves =
-      along Serves (λ s h named first goes. sym (append-nil (mine s)))
+      along Serves (λ s h named first goes. sym (append-nil (unreadBy s)))
       (λ s x q next h reads p es end rest. serves-step s h es end q p rest)
 
 -- Counts sent never fall.
@@ -244,10 +232,10 @@ unfolding Serves Pending
 served r xs s h goes =
     let es = accepted s xs in
     let took = lettersTaken r es in
-    let left = mine r (after s xs) in
-    let new = toMe r es (s .unread .sent) in
-    let order : took ++ left ≡ mine r s ++ new = serves r xs s h none tt goes in
-    let many : length (mine r s) ≡ tally (to r) (messages s) =
+    let left = unreadBy r (after s xs) in
+    let new = sentTo r es (s .unread .sent) in
+    let order : took ++ left ≡ unreadBy r s ++ new = serves r xs s h none tt goes in
+    let many : length (unreadBy r s) ≡ tally (to r) (messages s) =
     rw (select-map (to r) letter (λ m. refl) (messages s), length-map) in
     let since : every (sentSince r s) new ≡ true =
     every-both (to r) (λ m. ltb (sentAt (m .sender) (m .receiver) (s .unread .sent)) (m .sequence)) (sentSince r s)
@@ -258,13 +246,13 @@ served r xs s h goes =
       in-order = order;
       all-taken = λ enough.
           sym (take-append-le (tally (to r) (messages s)) took left enough) ∙ ap (ListN.take (tally (to r) (messages s))) order ∙
-          take-at (mine r s) new (tally (to r) (messages s)) many;
+          take-at (unreadBy r s) new (tally (to r) (messages s)) many;
       none-left = λ enough.
-          let k = length took - length (mine r s) in
-          let long : length took ≡ length (mine r s) + k = omega (arith, many) in
+          let k = length took - length (unreadBy r s) in
+          let long : length took ≡ length (unreadBy r s) + k = omega (arith, many) in
           let rest : left ≡ drop k new =
           sym (drop-append-seam took left) ∙ ap (drop (length took)) order ∙
-          ap (λ (n : ℕ). drop n (mine r s ++ new)) long ∙ drop-append-add (mine r s) new k in
+          ap (λ (n : ℕ). drop n (unreadBy r s ++ new)) long ∙ drop-append-add (unreadBy r s) new k in
           let all : every (sentSince r s) left ≡ true =
           rw rest (both-right (every (sentSince r s) (ListN.take k new)) _ (rw every-append at (rw (← take-append-drop k new) at since))) in
           rw (select-map (to r) letter (λ m. refl) (messages (after s xs)), every-map) at all;

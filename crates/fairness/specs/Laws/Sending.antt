@@ -21,9 +21,9 @@ use Rattle.broker.specs.State.{State, messages}
 use Rattle.protocol.specs.Step.{apply}
 use Rattle.record.specs.declared.Record.{Record}
 use Rattle.record.specs.declared.Record.the-variants.{Start, Call, Route, Send, Take, Move, Heed, Drain, Land, Part, End, Look}
 use Rattle.ordering.specs.Claim.{Reading, after, accepted}
 use Rattle.ordering.specs.Laws.Runs.{along}
-use Rattle.ordering.specs.Oldest.{letters, posted, countsAfter, lettersSent, lessTaken, lessAllTaken, KeptInOrder}
+use Rattle.fairness.specs.Sending.{letters, posted, countsAfter, lettersSent, lessTaken, lessAllTaken, KeptInOrder}
 
 module _ (s : State) where
   -- A take that is accepted takes a letter.

@@ -25,10 +25,11 @@ use Rattle.protocol.specs.Laws.State.{sameRank-eq, sameRank-self, sameRank-turn
 use Rattle.protocol.specs.Messages.{look, take, oldestSender}
 use Rattle.protocol.specs.Sound.{sound}
 use Rattle.record.specs.declared.Record.the-variants.{Take, Look}
 use Rattle.ordering.specs.Claim.{Reading, Entry, after, accepted}
 use Rattle.ordering.specs.Laws.Runs.{sound-after}
-use Rattle.ordering.specs.Laws.Served.{FirstFrom, own-take, look-names-first, served}
-use Rattle.ordering.specs.Oldest.{letters, lettersSent, isLookOf, isTakeOf, goesByLooks, lettersTaken}
+use Rattle.fairness.specs.Laws.Served.{FirstFrom, own-take, look-names-first, served}
+use Rattle.fairness.specs.Sending.{letters, lettersSent}
+use Rattle.fairness.specs.Served.{isLookOf, isTakeOf, goesByLooks, lettersTaken}
 
 -- A receiver that takes nothing goes by its looks.
 takes-nothing : (r : Rank) (es : List Entry) (named : Option ℕ) → lettersTaken r es ≡ [] → goesByLooks r named es ≡ true

@@ -1,0 +1,4 @@
+-- The proofs of the claims.
+pub mod Sending
+pub mod Served
+pub mod Named

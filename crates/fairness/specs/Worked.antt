@@ -1,0 +1,2 @@
+-- A worked example, computed from the definitions.
+pub mod Served
