@@ -1,4 +1,4 @@
--- Paper 01's number and values of an answer. Paper 01, "Where each step is checked"; paper 02, changes 2, 4 and 5.
+-- Paper 01's number and values of an answer. Paper 01, "Where each step is checked"; paper 02, changes 2 and 4.
 -- Assumes nothing.
 use Rattle.std.specs.Prelude.{List, [], ◌∷◌, ◌≡◌, ℕ}
 use Rattle.answer.specs.declared.Answer.{Answer}
@@ -31,9 +31,6 @@ use Rattle.answer.specs.declared.Refusal.TheVariants.{
   Full,
   NumbersSpent,
   SequenceSpent,
-  UserRange,
-  RightRange,
-  NoRight,
 }
 
 -- the number of each row of the table of checks
@@ -63,9 +60,6 @@ refusal_number UnreadLeft = 23
 refusal_number Full = 24
 refusal_number NumbersSpent = 25
 refusal_number SequenceSpent = 28
-refusal_number UserRange = 29
-refusal_number RightRange = 30
-refusal_number NoRight = 31
 
 -- the printed number: "0 when accepted"
 abbrev pub number : Answer → ℕ

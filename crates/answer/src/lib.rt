@@ -1,10 +1,10 @@
-// The answer to a step. Paper 01, "Where each step is checked"; paper 02, changes 2, 4 and 5.
+// The answer to a step. Paper 01, "Where each step is checked"; paper 02, changes 2 and 4.
 ghost use Rattle.std.specs.Prelude.{cond, ◌≡◌, ◌+◌, ◌<◌, ltb};
 ghost use Rattle.answer.specs.Answer.{refusal_number, number, values, listed};
 
 use transit::{Count, Value};
 
-// Why a step is refused: the rows of the table of checks, numbers 1 to 17, 19 to 25 and 28 to 31 in this order.
+// Why a step is refused: the rows of the table of checks, numbers 1 to 17, 19 to 25 and 28 in this order.
 #[derive(Drop)]
 pub enum Refusal {
     Unsound,
@@ -32,9 +32,6 @@ pub enum Refusal {
     Full,
     NumbersSpent,
     SequenceSpent,
-    UserRange,
-    RightRange,
-    NoRight,
 }
 
 #[derive(Drop)]
@@ -55,9 +52,9 @@ pub fn widened(n: Count) -> Value
 }
 
 impl Refusal {
-    // Its place among the numbers, counted from 1 with 18, 26 and 27 left out: up to 17 it is the number.
+    // Its row in the table of checks, counted from 1 with 18, 26 and 27 left out: up to 17 it is the number.
     fn row(self) -> u8
-        ensures { (cond (ltb result 18) result (cond (ltb result 25) (result + 1) (result + 3)) ≡ refusal_number self) × (result < 29) }
+        ensures { (cond (ltb result 18) result (cond (ltb result 25) (result + 1) (result + 3)) ≡ refusal_number self) × (result < 26) }
     {
         match self {
             Refusal::Unsound => 1,
@@ -85,9 +82,6 @@ impl Refusal {
             Refusal::Full => 23,
             Refusal::NumbersSpent => 24,
             Refusal::SequenceSpent => 25,
-            Refusal::UserRange => 26,
-            Refusal::RightRange => 27,
-            Refusal::NoRight => 28,
         }
     }
 

@@ -1,9 +1,6 @@
--- The abstract state, its parts and their changes, and the fresh state. Paper 01, "Names and places"; paper 02, change 5.
+-- The abstract state, its parts and their changes, and the fresh state. Paper 01, "Names and places".
 -- Assumes nothing.
-use Rattle.std.specs.Prelude.{Bool, not, List, ℕ, ◌+◌, ◌*◌, get_or, set, replicate}
-use Rattle.access.specs.Access.{holds_right, fresh_access}
-use Rattle.access.specs.declared.Access.{Access}
-use Rattle.access.specs.declared.User.{User}
+use Rattle.std.specs.Prelude.{not, List, ℕ, ◌+◌, ◌*◌, get_or, set, replicate}
 use Rattle.transit.specs.Message.{ranks, cells}
 use Rattle.transit.specs.Unread.{Unread, nothing, unread_of}
 use Rattle.transit.specs.declared.Message.{Message}
@@ -24,14 +21,13 @@ use Rattle.broker.specs.declared.process.Vmid.{Vmid}
 use Rattle.broker.specs.declared.state.Broker.{Broker}
 
 -- a process for each rank; for each rank and each rank, row after row, the first one's belief about the second, and its link to it;
--- how many numbers are drawn on each host; the unread messages; and who issues the records, with the rights of users
+-- how many numbers are drawn on each host; and the unread messages
 pub record State : Type 0 where
   pub processes : List Process
   pub locations : List Vmid
   pub links : List Link
   pub drawn : List ℕ
   pub unread : Unread
-  pub access : Access
 
 -- what a `Broker` holds: all of it but the unused message slots
 abbrev pub view : Broker → State
@@ -42,7 +38,6 @@ view broker =
       links = broker.links;
       drawn = broker.drawn;
       unread = unread_of broker.transit;
-      access = broker.access;
     }
 
 abbrev pub idle : Process
@@ -51,7 +46,7 @@ idle = record { status = Unstarted; request = Absent }
 abbrev pub apart : Link
 apart = record { connection = Closed; backlog = Clear }
 
--- "A fresh desk has no rank started, no messages, no numbers drawn, and table entries 0.0"; "A fresh desk is issued by user 0"
+-- "A fresh desk has no rank started, no messages, no numbers drawn, and table entries 0.0"
 abbrev pub fresh : State
 fresh =
     record {
@@ -60,7 +55,6 @@ fresh =
       links = replicate cells apart;
       drawn = replicate hosts 0;
       unread = nothing;
-      access = fresh_access;
     }
 
 -- where a's entry for b stands among sixteen rows of sixteen
@@ -104,14 +98,6 @@ drawn_on s h = get_or s.drawn h 0
 abbrev pub messages : State → List Message
 messages s = s.unread.messages
 
--- who issues the records
-abbrev pub issuer : State → User
-issuer s = s.access.issuer
-
--- the issuer has the right over the rank
-abbrev pub permitted : State → Rank → Bool
-permitted s r = holds_right s.access (issuer s) r
-
 abbrev pub with_process : Rank → Process → State → State
 with_process r p s =
     record {
@@ -120,7 +106,6 @@ with_process r p s =
       links = s.links;
       drawn = s.drawn;
       unread = s.unread;
-      access = s.access;
     }
 
 abbrev pub with_status : Rank → Status → State → State
@@ -131,25 +116,11 @@ with_request r q s = with_process r (record { status = status s r; request = q }
 
 abbrev pub with_locations : List Vmid → State → State
 with_locations ls s =
-    record {
-      processes = s.processes;
-      locations = ls;
-      links = s.links;
-      drawn = s.drawn;
-      unread = s.unread;
-      access = s.access;
-    }
+    record { processes = s.processes; locations = ls; links = s.links; drawn = s.drawn; unread = s.unread }
 
 abbrev pub with_links : List Link → State → State
 with_links ls s =
-    record {
-      processes = s.processes;
-      locations = s.locations;
-      links = ls;
-      drawn = s.drawn;
-      unread = s.unread;
-      access = s.access;
-    }
+    record { processes = s.processes; locations = s.locations; links = ls; drawn = s.drawn; unread = s.unread }
 
 abbrev pub with_drawn : ℕ → ℕ → State → State
 with_drawn h n s =
@@ -159,30 +130,11 @@ with_drawn h n s =
       links = s.links;
       drawn = set s.drawn h n;
       unread = s.unread;
-      access = s.access;
     }
 
 abbrev pub with_unread : Unread → State → State
 with_unread u s =
-    record {
-      processes = s.processes;
-      locations = s.locations;
-      links = s.links;
-      drawn = s.drawn;
-      unread = u;
-      access = s.access;
-    }
-
-abbrev pub with_access : Access → State → State
-with_access x s =
-    record {
-      processes = s.processes;
-      locations = s.locations;
-      links = s.links;
-      drawn = s.drawn;
-      unread = s.unread;
-      access = x;
-    }
+    record { processes = s.processes; locations = s.locations; links = s.links; drawn = s.drawn; unread = u }
 
 -- "h's next number"
 abbrev pub next_vmid : State → ℕ → Vmid

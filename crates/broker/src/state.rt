@@ -1,14 +1,13 @@
-// The whole state of the broker, and the fresh one. Paper 01, "Names and places"; paper 02, change 5.
+// The whole state of the broker, and the fresh one. Paper 01, "Names and places".
 ghost use Rattle.std.specs.Prelude.{◌≡◌};
 ghost use Rattle.broker.specs.State.{view, fresh};
 
 use crate::link::{Backlog, Connection, Link};
 use crate::process::{Process, Request, Status, Vmid};
-use access::Access;
 use transit::{CELLS, RANKS, Rank, Transit};
 
 // Sixteen processes; sixteen location tables of sixteen vmids each, row after row; a link for each rank towards each rank,
-// laid out likewise; how many numbers are drawn on each host; the unread messages; and who issues the records, with the rights of users.
+// laid out likewise; how many numbers are drawn on each host; and the unread messages.
 #[derive(Drop)]
 pub struct Broker {
     pub processes: [Process; RANKS],
@@ -16,7 +15,6 @@ pub struct Broker {
     pub links: [Link; CELLS],
     pub drawn: [u16; 8],
     pub transit: Transit,
-    pub access: Access,
 }
 
 impl Broker {
@@ -26,8 +24,7 @@ impl Broker {
 
     pub const NUMBERS: u16 = 65535;
 
-    // Paper 01: "A fresh desk has no rank started, no messages, no numbers drawn, and table entries 0.0". Paper 02, change 5: "A fresh desk
-    // is issued by user 0 ..; the others begin with none."
+    // Paper 01: "A fresh desk has no rank started, no messages, no numbers drawn, and table entries 0.0".
     pub fn fresh() -> Self
         ensures { view result ≡ fresh }
     {
@@ -41,14 +38,12 @@ impl Broker {
         };
         let unknown = Vmid(0, 0);
         let transit = Transit::fresh();
-        let access = Access::fresh();
         Broker {
             processes: [process; RANKS],
             locations: [unknown; CELLS],
             links: [link; CELLS],
             drawn: [0; 8],
             transit: transit,
-            access: access,
         }
     }
 }

@@ -1,7 +1,7 @@
 -- The made-up pass: the log of so many records from one number. Paper 02, change 1. A seed is the first word. Assumes nothing.
 use Rattle.std.specs.Prelude.{List, [], ◌∷◌, ◌++◌, ℕ, zero, suc, ◌+◌, ◌%◌}
 use Rattle.transit.specs.Message.{ranks}
-use Rattle.record.specs.Kind.{Field, rank_byte, host_byte, value_bytes, user_byte, right_byte}
+use Rattle.record.specs.Kind.{Field, rank_byte, host_byte, value_bytes}
 use Rattle.broker.specs.Names.{hosts}
 use Rattle.record.specs.Record.{fields_of, bytes_of}
 use Rattle.generator_draw.specs.Draw.{draw}
@@ -14,14 +14,11 @@ kinds = 12
 abbrev pub longest : ℕ
 longest = 7
 
--- "modulo 16 for a rank and 8 for a host; a send's value is one whole draw": the bytes of a field that a drawn word gives. No kind that is
--- drawn names a user, or gives a right: of such a field the whole byte would be drawn
+-- "modulo 16 for a rank and 8 for a host; a send's value is one whole draw": the bytes of a field that a drawn word gives
 abbrev pub drawn : Field → ℕ → List ℕ
 drawn rank_byte word = word % ranks ∷ []
 drawn host_byte word = word % hosts ∷ []
 drawn value_bytes word = bytes_of word
-drawn user_byte word = word % 256 ∷ []
-drawn right_byte word = word % 256 ∷ []
 
 -- "One further draw gives each body byte in order": "Each draw steps the generator and uses the new word."
 abbrev pub body : List Field → ℕ → List ℕ

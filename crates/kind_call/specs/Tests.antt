@@ -1,4 +1,4 @@
--- Call: its checks, as tests of the parts of the state that they speak of, in the order of the table.
+-- Call: its checks, as tests of the parts of the state that they speak of, in the order of their numbers.
 -- Paper 01, "Where each step is checked". Assumes nothing.
 use Rattle.std.specs.Prelude.{not, List, [], ◌∷◌, ◌++◌}
 use Rattle.transit.specs.declared.Rank.{Rank}

@@ -1,4 +1,4 @@
-// End: its checks in the paper's order, and what it does where none applies. Paper 01, "The step log", kind 0B; paper 02, change 5.
+// End: its checks in the paper's order, and what it does where none applies. Paper 01, "The step log", kind 0B.
 ghost use Rattle.std.specs.Prelude.{◌≡◌};
 ghost use Rattle.transit.specs.Mail.{Mail};
 ghost use Rattle.protocol.specs.Life.{end};
@@ -11,7 +11,6 @@ ghost use Rattle.kind_end.specs.Tests.{end_tests};
 use answer::{Refusal, Values};
 use broker::process::{Request, Status};
 use roster::Roster;
-use roster_access::is_permitted;
 use roster_awaits::alone;
 use roster_read::{request_of, standing_of};
 use roster_write::set_standing;
@@ -20,19 +19,11 @@ use transit_find::first_to;
 use verdict::Verdict;
 use verdict::unread::is_nothing;
 
-fn end_checked(
-    r: Rank,
-    standing: Status,
-    permitted: bool,
-    request: Request,
-    alone: bool,
-    found: Found,
-) -> Verdict
-    ensures { verdict_of result ≡ judged passed (end_tests r standing permitted request alone found) }
+fn end_checked(r: Rank, standing: Status, request: Request, alone: bool, found: Found) -> Verdict
+    ensures { verdict_of result ≡ judged passed (end_tests r standing request alone found) }
 {
     Verdict::on_one(r, standing)
         .running(standing)
-        .unless(!permitted, Refusal::NoRight)
         .unless(!alone, Refusal::Connected)
         .unless(request.is_open(), Refusal::RequestOpen)
         .unless(!is_nothing(found), Refusal::UnreadLeft)
@@ -44,11 +35,10 @@ pub fn end_verdict(r: Rank, slots: &Slots, contents: &Contents, roster: &Roster)
     ensures { Judges (Record.End r) (desk_of slots.now contents.now roster.now) result }
 {
     let standing = standing_of(r, roster);
-    let permitted = is_permitted(r, roster);
     let request = request_of(r, roster);
     let alone = alone(r, roster);
     let found = first_to(r, slots, contents);
-    end_checked(r, standing, permitted, request, alone, found)
+    end_checked(r, standing, request, alone, found)
 }
 
 // `r` is ended, and keeps its last vmid.

@@ -1,4 +1,4 @@
-// Land: its checks in the paper's order, and what it does where none applies. Paper 01, "The step log", kind 09; paper 02, change 5.
+// Land: its checks in the paper's order, and what it does where none applies. Paper 01, "The step log", kind 09.
 ghost use Rattle.std.specs.Prelude.{List, ◌≡◌, ℕ, ◌<◌};
 ghost use Rattle.transit.specs.Mail.{Mail};
 ghost use Rattle.transit.specs.Message.{ranks};
@@ -14,7 +14,6 @@ ghost use Rattle.kind_land.specs.Tests.{land_tests};
 use answer::{Refusal, Values, widened};
 use broker::process::Status;
 use roster::Roster;
-use roster_access::is_permitted;
 use roster_awaits::awaits;
 use roster_read::standing_of;
 use roster_write::set_standing;
@@ -23,12 +22,11 @@ use transit_count::count_to;
 use transit_relabel::relabel_to;
 use verdict::Verdict;
 
-fn land_checked(r: Rank, standing: Status, permitted: bool, awaited: u32) -> Verdict
-    ensures { verdict_of result ≡ judged passed (land_tests r standing permitted awaited) }
+fn land_checked(r: Rank, standing: Status, awaited: u32) -> Verdict
+    ensures { verdict_of result ≡ judged passed (land_tests r standing awaited) }
 {
     Verdict::on_one(r, standing)
         .migrating(standing)
-        .unless(!permitted, Refusal::NoRight)
         .unless(awaited != 0, Refusal::BacklogLeft)
 }
 
@@ -37,9 +35,8 @@ pub fn land_verdict(r: Rank, roster: &Roster) -> Verdict
     ensures { (u : Unread) → Judges (Record.Land r) (with_unread u (ranks_of roster.now)) result }
 {
     let standing = standing_of(r, roster);
-    let permitted = is_permitted(r, roster);
     let awaited = awaits(r, roster);
-    land_checked(r, standing, permitted, awaited)
+    land_checked(r, standing, awaited)
 }
 
 // `r`'s target process runs, and has what the source process had read.

@@ -1,18 +1,18 @@
--- Move: its checks, as tests of the parts of the state that they speak of, in the order of the table.
--- Paper 01, "Where each step is checked"; paper 02, change 5. Assumes nothing.
-use Rattle.std.specs.Prelude.{Bool, not, List, [], ◌∷◌, ◌++◌, ℕ, leb, ltb}
+-- Move: its checks, as tests of the parts of the state that they speak of, in the order of their numbers.
+-- Paper 01, "Where each step is checked". Assumes nothing.
+use Rattle.std.specs.Prelude.{not, List, [], ◌∷◌, ◌++◌, ℕ, leb, ltb}
 use Rattle.transit.specs.declared.Rank.{Rank}
 use Rattle.broker.specs.Names.{hosts, numbers, is_started, is_open_request}
 use Rattle.transit.specs.Message.{is_rank}
-use Rattle.answer.specs.declared.Refusal.TheVariants.{RankRange, HostRange, NotStarted, NoRight, RequestOpen, NumbersSpent}
+use Rattle.answer.specs.declared.Refusal.TheVariants.{RankRange, HostRange, NotStarted, RequestOpen, NumbersSpent}
 use Rattle.broker.specs.declared.process.Request.{Request}
 use Rattle.broker.specs.declared.process.Status.{Status}
 use Rattle.verdict.specs.Tests.{running_tests}
 use Rattle.verdict.specs.Verdict.{Test, test}
 
--- of the rank's standing, of whether the issuer has the right over it, of its call, and of how many numbers are drawn on the host
-abbrev pub move_tests : Rank → ℕ → Status → Bool → Request → ℕ → List Test
-move_tests r h t held q n =
+-- of the rank's standing and call, and of how many numbers are drawn on the host
+abbrev pub move_tests : Rank → ℕ → Status → Request → ℕ → List Test
+move_tests r h t q n =
     (test (not (is_rank r)) RankRange ∷ test (not (ltb h hosts)) HostRange ∷ test (not (is_started t)) NotStarted ∷ []) ++
     running_tests t ++
-    (test (not held) NoRight ∷ test (is_open_request q) RequestOpen ∷ test (leb numbers n) NumbersSpent ∷ [])
+    (test (is_open_request q) RequestOpen ∷ test (leb numbers n) NumbersSpent ∷ [])

@@ -1,4 +1,4 @@
-// Move: its checks in the paper's order, and what it does where none applies. Paper 01, "The step log", kind 06; paper 02, changes 2 and 5.
+// Move: its checks in the paper's order, and what it does where none applies. Paper 01, "The step log", kind 06; paper 02, change 2.
 ghost use Rattle.std.specs.Prelude.{List, ◌≡◌, ℕ, ◌<◌};
 ghost use Rattle.transit.specs.Mail.{Mail};
 ghost use Rattle.transit.specs.Message.{ranks};
@@ -17,7 +17,6 @@ use broker::process::{Request, Status, Vmid};
 use broker::state::Broker;
 use kind_move_leaving::{leave_all, leave_behind};
 use roster::Roster;
-use roster_access::is_permitted;
 use roster_awaits::awaits;
 use roster_read::{drawn_on, request_of, standing_of};
 use roster_write::{set_drawn, set_standing};
@@ -25,22 +24,14 @@ use transit::{Rank, Slots, Value};
 use verdict::Verdict;
 use verdict::names::{is_host, is_rank};
 
-fn move_checked(
-    r: Rank,
-    host: u8,
-    standing: Status,
-    permitted: bool,
-    request: Request,
-    drawn: u16,
-) -> Verdict
-    ensures { verdict_of result ≡ judged passed (move_tests r host standing permitted request drawn) }
+fn move_checked(r: Rank, host: u8, standing: Status, request: Request, drawn: u16) -> Verdict
+    ensures { verdict_of result ≡ judged passed (move_tests r host standing request drawn) }
 {
     Verdict::passed()
         .unless(!is_rank(r), Refusal::RankRange)
         .unless(!is_host(host), Refusal::HostRange)
         .unless(!standing.is_started(), Refusal::NotStarted)
         .running(standing)
-        .unless(!permitted, Refusal::NoRight)
         .unless(request.is_open(), Refusal::RequestOpen)
         .unless(Broker::NUMBERS <= drawn, Refusal::NumbersSpent)
 }
@@ -50,10 +41,9 @@ pub fn move_verdict(r: Rank, host: u8, roster: &Roster) -> Verdict
     ensures { (u : Unread) → Judges (Record.Move r host) (with_unread u (ranks_of roster.now)) result }
 {
     let standing = standing_of(r, roster);
-    let permitted = is_permitted(r, roster);
     let request = request_of(r, roster);
     let drawn = drawn_on(host, roster);
-    move_checked(r, host, standing, permitted, request, drawn)
+    move_checked(r, host, standing, request, drawn)
 }
 
 // `r` migrates to `host` with its next number, and the lines that it has are left. The host may be the one where it runs.

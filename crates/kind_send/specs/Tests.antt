@@ -1,4 +1,4 @@
--- Send: its checks, as tests of the parts of the state that they speak of, in the order of the table.
+-- Send: its checks, as tests of the parts of the state that they speak of, in the order of their numbers.
 -- Paper 01, "Where each step is checked"; paper 02, change 4. Assumes nothing.
 use Rattle.std.specs.Prelude.{List, [], ◌∷◌, ◌++◌, ℕ, leb}
 use Rattle.transit.specs.Unread.{limit, most_sent}

@@ -1,9 +1,7 @@
--- The ordering claim, demand 3: one claim about a whole list of steps. Paper 01, "Lists of steps"; paper 02, change 5.
+-- The ordering claim, demand 3: one claim about a whole list of steps. Paper 01, "Lists of steps".
 -- Each part has a name under the sentence that it transcribes; the last definition is the claim. Assumes nothing.
 use Rattle.std.specs.Prelude.{◌≡◌, Bool, true, false, not, cond, ◌&&◌, ◌||◌, List, [], ◌∷◌, ◌++◌, map, ℕ, ◌<◌, ltb, get_or}
 use Rattle.std.proofs.Math.Option.{Option, none, some}
-use Rattle.access.specs.Access.{user, same_user}
-use Rattle.access.specs.declared.User.{User}
 use Rattle.base.specs.Lists.{select, every}
 use Rattle.transit.specs.Message.{is_same_rank, place_order, ranks}
 use Rattle.transit.specs.declared.Message.{Message}
@@ -14,7 +12,7 @@ use Rattle.record.specs.Kind
 use Rattle.broker.specs.Names.{is_migrating}
 use Rattle.broker.specs.Ranks.{every_rank}
 use Rattle.record.specs.Record.{decode}
-use Rattle.broker.specs.State.{State, fresh, status, messages, issuer}
+use Rattle.broker.specs.State.{State, fresh, status, messages}
 use Rattle.protocol.specs.Step.{Outcome, step}
 use Rattle.answer.specs.declared.Answer.{Answer}
 use Rattle.answer.specs.declared.Answer.TheVariants.{Accepted, Refused}
@@ -133,16 +131,6 @@ unbroken none (x ∷ xs) =
 unbroken (some r) (x ∷ xs) =
     cond (is (Kind.land ∷ []) x) (of_first (λ p. is_same_rank p r) x && unbroken none xs) (stands_inside r x && unbroken (some r) xs)
 
--- Paper 02, change 5: "In the second list of the ordering claim every record is issued by user 0.": a step is issued by the user who issues
--- in the state that it is lent
-abbrev pub every_issued_by : User → State → List Reading → Bool
-every_issued_by u s [] = true
-every_issued_by u s (x ∷ xs) = same_user (issuer s) u && every_issued_by u (step_at s x).state xs
-
--- a record that says who issues, 0D, or gives or withdraws a right, 0E
-abbrev pub is_of_users : Record → Bool
-is_of_users r = is (Kind.issue ∷ Kind.grant ∷ []) r
-
 -- "One byte of kind, then a body .. Ranks and hosts are one byte each; the value is four bytes": a log is a list of bytes
 abbrev pub is_byte : ℕ → Bool
 is_byte n = ltb n 256
@@ -160,9 +148,6 @@ pub record SecondList (xs : List Reading) : Type 0 where
   pub bytes : are_bytes xs ≡ true → are_bytes list ≡ true
   pub all_accepted : every_accepted fresh list ≡ true
   pub moves_unbroken : unbroken none (records (accepted fresh list)) ≡ true
-  -- "every record is issued by user 0", so that none says who issues or gives a right
-  pub by_user_zero : every_issued_by (user 0) fresh list ≡ true
-  pub none_of_users_lem : every (λ r. not (is_of_users r)) (records (accepted fresh list)) ≡ true
   pub same_steps : five_kinds (accepted fresh list) ≡ five_kinds (accepted fresh xs)
   pub same_taken : (a b : Rank) → taken a b (accepted fresh list) ≡ taken a b (accepted fresh xs)
   pub same_unread : (a b : Rank) → a.0 < ranks → b.0 < ranks → unread a b (after fresh list) ≡ unread a b (after fresh xs)

@@ -2,7 +2,6 @@
 pub mod Runs
 pub mod Balance
 pub mod First
-pub mod Issued
 pub mod Numbers
 pub mod Following
 pub mod Stands

@@ -1,8 +1,7 @@
--- The table of checks, a predicate for each row from 4 to 17, from 19 to 25 and from 28 to 31 as the table words it, and the first row that
--- applies. Paper 01, "Where each step is checked"; paper 02, change 2: "Number 18 is given no more"; and changes 4 and 5. Assumes nothing.
+-- The table of checks, a predicate for each row from 4 to 17, from 19 to 25 and 28 as the table words it, and the first row that applies.
+-- Paper 01, "Where each step is checked"; paper 02, change 2: "Number 18 is given no more"; and change 4. Assumes nothing.
 use Rattle.std.specs.Prelude.{Bool, not, cond, ◌&&◌, ◌||◌, List, [], ◌∷◌, eqb, leb, ltb}
 use Rattle.std.proofs.Math.Option.{Option, none, some}
-use Rattle.access.specs.Access.{is_user, is_user_zero}
 use Rattle.base.specs.Lists.{every, tally, any_of}
 use Rattle.transit.specs.Message.{is_same_rank, between, to, at, is_rank}
 use Rattle.transit.specs.Unread.{limit, most_sent}
@@ -23,8 +22,8 @@ use Rattle.broker.specs.Names.{
   is_unheeded,
 }
 use Rattle.broker.specs.Ranks.{every_rank}
-use Rattle.record.specs.Parts.{ranks_in, hosts_in, users_in, rights_in, is, of_first, of_two}
-use Rattle.broker.specs.State.{State, status, request, connection, backlog, drawn_on, messages, issuer, permitted}
+use Rattle.record.specs.Parts.{ranks_in, hosts_in, is, of_first, of_two}
+use Rattle.broker.specs.State.{State, status, request, connection, backlog, drawn_on, messages}
 use Rattle.answer.specs.declared.Refusal.{Refusal}
 use Rattle.answer.specs.declared.Refusal.TheVariants.{
   RankRange,
@@ -49,9 +48,6 @@ use Rattle.answer.specs.declared.Refusal.TheVariants.{
   Full,
   NumbersSpent,
   SequenceSpent,
-  UserRange,
-  RightRange,
-  NoRight,
 }
 use Rattle.broker.specs.declared.process.Status.{Status}
 use Rattle.record.specs.declared.Record.{Record}
@@ -72,25 +68,17 @@ host_range s r = is (Kind.start ∷ Kind.move ∷ []) r && not (every (λ h. ltb
 unfoldable pub rank_twice : State → Record → Bool
 rank_twice s r = of_two is_same_rank r
 
--- Paper 02, change 5: "29 for a user above 3, or 0 in a 0E, after 6"
-unfoldable pub user_range : State → Record → Bool
-user_range s r = not (every is_user (users_in r)) || is (Kind.grant ∷ []) r && any_of is_user_zero (users_in r)
-
--- "30 for a right byte other than 0 or 1, after 29"
-unfoldable pub right_range : State → Record → Bool
-right_range s r = not (every (λ n. leb n 1) (rights_in r))
-
--- 7: "a named rank is unstarted (all but start)"; paper 02, change 5: "7 and 9 pass over 0E"
+-- 7: "a named rank is unstarted (all but start)"
 unfoldable pub not_started : State → Record → Bool
-not_started s r = not (is (Kind.start ∷ Kind.grant ∷ []) r) && not (every (λ a. is_started (status s a)) (ranks_in r))
+not_started s r = not (is (Kind.start ∷ []) r) && not (every (λ a. is_started (status s a)) (ranks_in r))
 
 -- 8: "start: rank not unstarted"
 unfoldable pub already_started : State → Record → Bool
 already_started s r = is (Kind.start ∷ []) r && first_stands is_started s r
 
--- 9: "first rank ended (all but start, route)", and 0E
+-- 9: "first rank ended (all but start, route)"
 unfoldable pub has_ended : State → Record → Bool
-has_ended s r = not (is (Kind.start ∷ Kind.route ∷ Kind.grant ∷ []) r) && first_stands is_ended s r
+has_ended s r = not (is (Kind.start ∷ Kind.route ∷ []) r) && first_stands is_ended s r
 
 -- 10: "call, send, take, move, part, end, look: first rank moving"
 unfoldable pub first_migrating : State → Record → Bool
@@ -101,13 +89,6 @@ first_migrating s r =
 -- 11: "drain, land: rank not moving"
 unfoldable pub not_migrating : State → Record → Bool
 not_migrating s r = is (Kind.drain ∷ Kind.land ∷ []) r && first_stands (λ t. not (is_migrating t)) s r
-
--- "31 for a missing right (a 0E by another user too), after 11": "Move, land and end need the right over the rank", and user 0 "alone may
--- issue 0E"
-unfoldable pub no_right : State → Record → Bool
-no_right s r =
-    is (Kind.move ∷ Kind.land ∷ Kind.end ∷ []) r && of_first (λ a. not (permitted s a)) r ||
-    is (Kind.grant ∷ []) r && not (is_user_zero (issuer s))
 
 -- 12: "call: a line to b stands; end: any line stands"
 unfoldable pub connected : State → Record → Bool
@@ -181,20 +162,17 @@ pub record Check : Type 0 where
   pub refusal : Refusal
   pub given : State → Record → Bool
 
--- the rows in the order in which they decide: "from here the first check in this order decides, not the lowest number"
+-- the rows in the order in which they decide: "The lowest number that applies is given"
 unfoldable pub checks : List Check
 checks =
     record { refusal = RankRange; given = rank_range } ∷
     record { refusal = HostRange; given = host_range } ∷
     record { refusal = SameRank; given = rank_twice } ∷
-    record { refusal = UserRange; given = user_range } ∷
-    record { refusal = RightRange; given = right_range } ∷
     record { refusal = NotStarted; given = not_started } ∷
     record { refusal = AlreadyStarted; given = already_started } ∷
     record { refusal = HasEnded; given = has_ended } ∷
     record { refusal = IsMigrating; given = first_migrating } ∷
     record { refusal = NotMigrating; given = not_migrating } ∷
-    record { refusal = NoRight; given = no_right } ∷
     record { refusal = Connected; given = connected } ∷
     record { refusal = RequestOpen; given = request_open } ∷
     record { refusal = NoRequest; given = no_request } ∷

@@ -1,7 +1,6 @@
 -- Theorems of the definitions.
 pub mod Accepted
 pub mod Accepts
-pub mod Access
 pub mod Alike
 pub mod Cases
 pub mod Changes
@@ -13,7 +12,6 @@ pub mod Each
 pub mod Edges
 pub mod Effect
 pub mod Fit
-pub mod Guard
 pub mod Kept
 pub mod Leaving
 pub mod Links

@@ -7,7 +7,6 @@ pub mod Laws
 pub mod Life
 pub mod Messages
 pub mod Migrate
-pub mod Rights
 pub mod Sound
 pub mod Step
 pub mod Values

@@ -1,9 +1,8 @@
--- Soundness: named clauses for each sentence of paper 01, "Sound states", and of paper 02, changes 4 and 5, in four groups, and their
+-- Soundness: named clauses for each sentence of paper 01, "Sound states", and of paper 02, change 4, in three groups, and their
 -- conjunction.
 -- Assumes nothing.
 use Rattle.std.specs.Prelude.{Bool, true, not, cond, ◌&&◌, ◌||◌, List, [], ◌∷◌, map, eqb, leb, ltb, length}
 use Rattle.std.specs.Bool.{beq}
-use Rattle.access.specs.Access.{is_user, rights}
 use Rattle.base.specs.Lists.{select, every, never_falls, rises_within}
 use Rattle.transit.specs.Message.{between, at, place_number, is_same_rank, is_rank, ranks, cells}
 use Rattle.transit.specs.Unread.{limit}
@@ -30,7 +29,7 @@ use Rattle.broker.specs.Names.{
 }
 use Rattle.broker.specs.Ranks.{every_rank, every_pair}
 use Rattle.base.specs.Below.{all_below}
-use Rattle.broker.specs.State.{State, status, request, location, connection, backlog, drawn_on, messages, issuer}
+use Rattle.broker.specs.State.{State, status, request, location, connection, backlog, drawn_on, messages}
 use Rattle.broker.specs.declared.process.Request.{Request}
 use Rattle.broker.specs.declared.process.Request.TheVariants.{Absent, Posted}
 use Rattle.broker.specs.declared.process.Vmid.{Vmid}
@@ -185,19 +184,6 @@ unfoldable pub messages_sound : State → Bool
 messages_sound s =
     few_unread s && messages_named s && ends_fit s && unheeded_places s && places_fit s && places_rise s && numbers_rise s
 
--- Who issues the records, and the rights: "A field that a request adds is sound within that request's checks".
-
--- Paper 02, change 5: "Users are 0 to 3."
-unfoldable pub issuer_known : State → Bool
-issuer_known s = is_user (issuer s)
-
--- the rights are of users 1 to 3, each over the sixteen ranks, and there are no others: user 0 "always holds every right"
-unfoldable pub rights_whole : State → Bool
-rights_whole s = eqb (length s.access.rights) rights
-
-unfoldable pub access_sound : State → Bool
-access_sound s = issuer_known s && rights_whole s
-
 -- "A state is sound when all of these hold."
 unfoldable pub sound : State → Bool
-sound s = shaped s && names_sound s && pairs_sound s && messages_sound s && access_sound s
+sound s = shaped s && names_sound s && pairs_sound s && messages_sound s

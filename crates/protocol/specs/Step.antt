@@ -1,5 +1,5 @@
 -- A step: the record at a position of a log, its checks, what it does, and where the next one stands. Paper 01, "The step log" and
--- "Where each step is checked"; paper 02, change 5. Assumes nothing.
+-- "Where each step is checked". Assumes nothing.
 use Rattle.std.specs.Prelude.{cond, List, ℕ}
 use Rattle.std.proofs.Math.Option.{Option, none, some}
 use Rattle.protocol.specs.Checks.{refusal}
@@ -8,7 +8,6 @@ use Rattle.protocol.specs.Done.{Done}
 use Rattle.protocol.specs.Life.{start, end}
 use Rattle.protocol.specs.Messages.{send, take, look}
 use Rattle.protocol.specs.Migrate.{move, heed, drain, land}
-use Rattle.protocol.specs.Rights.{issue, grant}
 use Rattle.record.specs.Record.{decode}
 use Rattle.protocol.specs.Sound.{sound}
 use Rattle.broker.specs.State.{State}
@@ -19,22 +18,7 @@ use Rattle.answer.specs.declared.Refusal.TheVariants.{Unsound, UnknownKind, CutS
 use Rattle.record.specs.declared.Decoded.{Decoded}
 use Rattle.record.specs.declared.Decoded.TheVariants.{Whole, Unknown, Cut}
 use Rattle.record.specs.declared.Record.{Record}
-use Rattle.record.specs.declared.Record.TheVariants.{
-  Start,
-  Call,
-  Route,
-  Send,
-  Take,
-  Move,
-  Heed,
-  Drain,
-  Land,
-  Part,
-  End,
-  Look,
-  Issue,
-  Grant,
-}
+use Rattle.record.specs.declared.Record.TheVariants.{Start, Call, Route, Send, Take, Move, Heed, Drain, Land, Part, End, Look}
 
 -- what an accepted record does
 unfoldable pub apply : Record → State → Done
@@ -50,8 +34,6 @@ apply (Land r) s = land r s
 apply (Part a b) s = part a b s
 apply (End r) s = end r s
 apply (Look r) s = look r s
-apply (Issue u) s = issue u s
-apply (Grant u r n) s = grant u r n s
 
 -- what a record that was read whole comes to: its answer, and the state afterwards
 pub record Settlement : Type 0 where

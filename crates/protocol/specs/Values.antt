@@ -1,7 +1,6 @@
 -- What each kind of step answers: worked runs from the fresh state, with v1, v2 and v3 of the steps that they show and what must hold at
--- the end. Paper 01, "The step log"; paper 02, changes 4, 5 and 6. That they answer so is `Laws/Values`. Assumes nothing.
+-- the end. Paper 01, "The step log"; paper 02, changes 4 and 6. That they answer so is `Laws/Values`. Assumes nothing.
 use Rattle.std.specs.Prelude.{◌≡◌, Bool, true, not, ◌&&◌, List, [], ◌∷◌, ◌++◌, ℕ, eqb}
-use Rattle.access.specs.Access.{user, same_user, holds_right}
 use Rattle.base.specs.Lists.{tally}
 use Rattle.transit.specs.Message.{rank, picks}
 use Rattle.transit.specs.declared.Place.TheVariants.{SourceChannel, EndList, Channel}
@@ -9,8 +8,8 @@ use Rattle.transit.specs.declared.Selection.{Selection}
 use Rattle.transit.specs.declared.Selection.TheVariants.{ToAt, BetweenAt}
 use Rattle.protocol.specs.Edges.{Try, accepts, refuses, answers, Edge, holds, answered}
 use Rattle.record.specs.Kind
-use Rattle.broker.specs.Names.{vmid, same_vmid, is_migrating, is_ended, is_open_request, asks_for, is_closed, is_open, is_unheeded, is_marked}
-use Rattle.broker.specs.State.{State, status, request, location, connection, backlog, messages, issuer}
+use Rattle.broker.specs.Names.{vmid, same_vmid, is_ended, is_open_request, asks_for, is_closed, is_open, is_unheeded, is_marked}
+use Rattle.broker.specs.State.{State, status, request, location, connection, backlog, messages}
 
 -- so many unread messages are selected
 abbrev unread_are : ℕ → Selection → State → Bool
@@ -249,50 +248,6 @@ look =
       then = answered;
     }
 
--- 0D: paper 02, change 5: "says who issues the records after it"; "Both kinds answer zeros". A refused one changes nothing: the user who
--- has no right is still the one who issues, and may start a rank
-abbrev pub issue : Edge
-issue =
-    record {
-      steps =
-          opening ++
-          answers (Kind.issue ∷ 2 ∷ []) 0 0 0 ∷
-          refuses (Kind.issue ∷ 4 ∷ []) 29 ∷
-          refuses (Kind.move ∷ 0 ∷ 6 ∷ []) 31 ∷
-          refuses (Kind.land ∷ 0 ∷ []) 11 ∷
-          refuses (Kind.end ∷ 0 ∷ []) 31 ∷
-          answers (Kind.start ∷ 3 ∷ 6 ∷ []) 6 2 0 ∷ [];
-      then = λ s. same_user (issuer s) (user 2);
-    }
-
--- 0E: "gives or withdraws that user's right over a rank": to user 1 over rank 0 alone, and to user 3 over rank 9, which is unstarted. User 1
--- moves rank 0, and no other, and loses the right before it has landed
-abbrev pub grant : Edge
-grant =
-    record {
-      steps =
-          opening ++
-          answers (Kind.grant ∷ 1 ∷ 0 ∷ 1 ∷ []) 0 0 0 ∷
-          answers (Kind.grant ∷ 3 ∷ 9 ∷ 1 ∷ []) 0 0 0 ∷
-          refuses (Kind.grant ∷ 0 ∷ 16 ∷ 2 ∷ []) 4 ∷
-          refuses (Kind.grant ∷ 0 ∷ 0 ∷ 2 ∷ []) 29 ∷
-          refuses (Kind.grant ∷ 4 ∷ 0 ∷ 1 ∷ []) 29 ∷
-          accepts (Kind.issue ∷ 1 ∷ []) ∷
-          refuses (Kind.grant ∷ 1 ∷ 1 ∷ 2 ∷ []) 30 ∷
-          refuses (Kind.grant ∷ 1 ∷ 1 ∷ 1 ∷ []) 31 ∷
-          refuses (Kind.move ∷ 1 ∷ 6 ∷ []) 31 ∷
-          answers (Kind.move ∷ 0 ∷ 6 ∷ []) 6 2 0 ∷
-          accepts (Kind.issue ∷ 0 ∷ []) ∷
-          answers (Kind.grant ∷ 1 ∷ 0 ∷ 0 ∷ []) 0 0 0 ∷
-          accepts (Kind.issue ∷ 1 ∷ []) ∷
-          refuses (Kind.land ∷ 0 ∷ []) 31 ∷ [];
-      then =
-          λ s.
-          is_migrating (status s (rank 0)) &&
-          not (holds_right s.access (user 1) (rank 0)) &&
-          holds_right s.access (user 3) (rank 9);
-    }
-
 pub record ValuesHold : Type 0 where
   pub of_start : holds start ≡ true
   pub of_call_lem : holds call ≡ true
@@ -309,5 +264,3 @@ pub record ValuesHold : Type 0 where
   pub of_part : holds part ≡ true
   pub of_end : holds end ≡ true
   pub of_look : holds look ≡ true
-  pub of_issue : holds issue ≡ true
-  pub of_grant : holds grant ≡ true

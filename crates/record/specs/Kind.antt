@@ -1,4 +1,4 @@
--- The numbers of the kinds, "Kinds are hexadecimal", and what stands in a body. Paper 01, "The step log"; paper 02, change 5.
+-- The numbers of the kinds, "Kinds are hexadecimal", and what stands in a body. Paper 01, "The step log".
 -- Assumes nothing.
 use Rattle.std.specs.Prelude.{Bool, false, ◌||◌, List, [], ◌∷◌, ℕ, ◌+◌, eqb}
 
@@ -38,14 +38,6 @@ end = 0x0B
 abbrev pub look : ℕ
 look = 0x0C
 
--- "Kind 0D .. says who issues the records after it."
-abbrev pub issue : ℕ
-issue = 0x0D
-
--- "Kind 0E .. gives or withdraws that user's right over a rank."
-abbrev pub grant : ℕ
-grant = 0x0E
-
 -- the kind is among the listed ones
 abbrev pub one_of : List ℕ → ℕ → Bool
 one_of [] k = false
@@ -56,16 +48,12 @@ pub data Field : Type 0 where
   rank_byte : Field
   host_byte : Field
   value_bytes : Field
-  user_byte : Field
-  right_byte : Field
 
--- "Ranks and hosts are one byte each; the value is four bytes"; "user, one byte", and a byte that is "0 or 1"
+-- "Ranks and hosts are one byte each; the value is four bytes"
 abbrev pub field_length : Field → ℕ
 field_length rank_byte = 1
 field_length host_byte = 1
 field_length value_bytes = 4
-field_length user_byte = 1
-field_length right_byte = 1
 
 -- how long fields are in a row
 abbrev pub fields_length : List Field → ℕ

@@ -1,42 +1,20 @@
--- The parts of a record, whatever its kind, and tests of what it names. Paper 01, "The step log"; paper 02, change 5. Assumes nothing.
+-- The parts of a record, whatever its kind, and tests of what it names. Paper 01, "The step log". Assumes nothing.
 use Rattle.std.specs.Prelude.{Bool, false, List, [], ◌∷◌, ℕ}
 use Rattle.std.proofs.Math.Option.{Option, none, some}
-use Rattle.access.specs.declared.User.{User}
 use Rattle.transit.specs.declared.Rank.{Rank}
 use Rattle.record.specs.Kind
 use Rattle.record.specs.declared.Record.{Record}
-use Rattle.record.specs.declared.Record.TheVariants.{
-  Start,
-  Call,
-  Route,
-  Send,
-  Take,
-  Move,
-  Heed,
-  Drain,
-  Land,
-  Part,
-  End,
-  Look,
-  Issue,
-  Grant,
-}
+use Rattle.record.specs.declared.Record.TheVariants.{Start, Call, Route, Send, Take, Move, Heed, Drain, Land, Part, End, Look}
 
--- its kind, and the ranks, hosts, values and users that it names, each in the body's order; and its bytes that give or withdraw a right
+-- its kind, and the ranks, hosts and values that it names, each in the body's order
 pub record Parts : Type 0 where
   pub kind : ℕ
   pub ranks : List Rank
   pub hosts : List ℕ
   pub values : List ℕ
-  pub users : List User
-  pub rights : List ℕ
 
--- of a kind that names no user, and of one that does
 abbrev parts : ℕ → List Rank → List ℕ → List ℕ → Parts
-parts kind ranks hosts values = record { kind = kind; ranks = ranks; hosts = hosts; values = values; users = []; rights = [] }
-
-abbrev of_user : ℕ → User → List Rank → List ℕ → Parts
-of_user kind u ranks rights = record { kind = kind; ranks = ranks; hosts = []; values = []; users = u ∷ []; rights = rights }
+parts kind ranks hosts values = record { kind = kind; ranks = ranks; hosts = hosts; values = values }
 
 abbrev pub parts_of : Record → Parts
 parts_of (Start r h) = parts Kind.start (r ∷ []) (h ∷ []) []
@@ -51,8 +29,6 @@ parts_of (Land r) = parts Kind.land (r ∷ []) [] []
 parts_of (Part a b) = parts Kind.part (a ∷ b ∷ []) [] []
 parts_of (End r) = parts Kind.end (r ∷ []) [] []
 parts_of (Look r) = parts Kind.look (r ∷ []) [] []
-parts_of (Issue u) = of_user Kind.issue u [] []
-parts_of (Grant u r n) = of_user Kind.grant u (r ∷ []) (n ∷ [])
 
 abbrev pub kind_of : Record → ℕ
 kind_of r = (parts_of r).kind
@@ -65,12 +41,6 @@ hosts_in r = (parts_of r).hosts
 
 abbrev pub values_in : Record → List ℕ
 values_in r = (parts_of r).values
-
-abbrev pub users_in : Record → List User
-users_in r = (parts_of r).users
-
-abbrev pub rights_in : Record → List ℕ
-rights_in r = (parts_of r).rights
 
 -- the record is of one of the listed kinds
 abbrev pub is : List ℕ → Record → Bool

@@ -1,28 +1,12 @@
--- The table of kinds, and the record at a position of a log. Paper 01, "The step log"; paper 02, change 5.
+-- The table of kinds, and the record at a position of a log. Paper 01, "The step log".
 -- Assumes nothing.
 use Rattle.std.specs.Prelude.{Bool, cond, ◌&&◌, List, [], ◌∷◌, map, ℕ, ◌+◌, ◌*◌, ◌/◌, ◌%◌, leb, ltb, length, get_or, take, drop}
-use Rattle.access.specs.Access.{user}
-use Rattle.record.specs.Kind.{Field, rank_byte, host_byte, value_bytes, user_byte, right_byte, field_length, fields_length}
+use Rattle.record.specs.Kind.{Field, rank_byte, host_byte, value_bytes, field_length, fields_length}
 use Rattle.transit.specs.Message.{rank}
 use Rattle.record.specs.declared.Decoded.{Decoded}
 use Rattle.record.specs.declared.Decoded.TheVariants.{Whole, Unknown, Cut}
 use Rattle.record.specs.declared.Record.{Record}
-use Rattle.record.specs.declared.Record.TheVariants.{
-  Start,
-  Call,
-  Route,
-  Send,
-  Take,
-  Move,
-  Heed,
-  Drain,
-  Land,
-  Part,
-  End,
-  Look,
-  Issue,
-  Grant,
-}
+use Rattle.record.specs.declared.Record.TheVariants.{Start, Call, Route, Send, Take, Move, Heed, Drain, Land, Part, End, Look}
 
 -- a kind: the fields of its body, and the record that the fields make, each given as a number by its place in the body
 pub record Row : Type 0 where
@@ -33,8 +17,7 @@ abbrev row : List Field → ((ℕ → ℕ) → Record) → Row
 row fields make = record { fields = fields; make = make }
 
 -- the kinds as the paper lists them, from 01 on: "start r h", "call a b", "route a b", "send a b value", "take b a", "move r h",
--- "heed b r", "drain r s", "land r", "part a b", "end r", "look r"; paper 02, change 5: "Kind 0D (user, one byte)", "Kind 0E (user, rank,
--- 0 or 1)"
+-- "heed b r", "drain r s", "land r", "part a b", "end r", "look r"
 abbrev pub table : List Row
 table =
     row rank_and_host (λ n. Start (rank (n 0)) (n 1)) ∷
@@ -48,9 +31,7 @@ table =
     row one_rank (λ n. Land (rank (n 0))) ∷
     row two_ranks (λ n. Part (rank (n 0)) (rank (n 1))) ∷
     row one_rank (λ n. End (rank (n 0))) ∷
-    row one_rank (λ n. Look (rank (n 0))) ∷
-    row (user_byte ∷ []) (λ n. Issue (user (n 0))) ∷
-    row (user_byte ∷ rank_byte ∷ right_byte ∷ []) (λ n. Grant (user (n 0)) (rank (n 1)) (n 2)) ∷ []
+    row one_rank (λ n. Look (rank (n 0))) ∷ []
   where
     one_rank : List Field
     one_rank = rank_byte ∷ []
@@ -61,7 +42,7 @@ table =
     rank_and_host : List Field
     rank_and_host = rank_byte ∷ host_byte ∷ []
 
--- "kind is not 01 to 0C", and "a kind it adds is known to 2": 0D and 0E. 2 is for all others
+-- "kind is not 01 to 0C" is for all others
 abbrev pub is_kind : ℕ → Bool
 is_kind k = leb 1 k && leb k (length table)
 
@@ -93,8 +74,6 @@ abbrev pub number_at : Field → ℕ → List ℕ → ℕ
 number_at rank_byte k bytes = get_or bytes k 0
 number_at host_byte k bytes = get_or bytes k 0
 number_at value_bytes k bytes = value_of (get_or bytes k 0) (get_or bytes (k + 1) 0) (get_or bytes (k + 2) 0) (get_or bytes (k + 3) 0)
-number_at user_byte k bytes = get_or bytes k 0
-number_at right_byte k bytes = get_or bytes k 0
 
 -- the numbers of fields in a row, the first of which starts there
 abbrev pub numbers_from : List Field → ℕ → List ℕ → List ℕ
@@ -109,7 +88,7 @@ record_of k bytes = (get_or (no_row ∷ table) k no_row).make (λ n. get_or (num
 abbrev pub body_at : List ℕ → ℕ → List ℕ
 body_at log at = take (body_length (get_or log at 0)) (drop (at + 1) log)
 
--- "position at or past the log's end" is cut and "no kind is read"; then "kind is not 01 to 0C", 0D or 0E; then "body cut short"
+-- "position at or past the log's end" is cut and "no kind is read"; then "kind is not 01 to 0C"; then "body cut short"
 unfoldable pub decode : List ℕ → ℕ → Decoded
 decode log at =
     cond (ltb at (length log))

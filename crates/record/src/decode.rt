@@ -1,14 +1,13 @@
-// The record at a position of a log. Paper 01, "The step log"; paper 02, change 5.
+// The record at a position of a log. Paper 01, "The step log".
 ghost use Rattle.std.specs.Prelude.{true, ◌≡◌, ◌+◌, ◌<◌, ◌^◌, get_or};
 ghost use Rattle.record.specs.Kind.{value_bytes};
 ghost use Rattle.record.specs.Record.{is_kind, body_length, number_at, record_of, decode};
 
 use crate::{Decoded, Record};
-use access::User;
 use transit::{Rank, Value};
 
-// How many kinds there are: 01 to 0E.
-const KINDS: u8 = 14;
+// How many kinds there are: 01 to 0C.
+const KINDS: u8 = 12;
 
 pub fn is_kind(kind: u8) -> bool
     ensures { result ≡ is_kind kind }
@@ -23,8 +22,9 @@ fn body_length(kind: u8) -> usize
 {
     match kind {
         4 => 6,
-        9 | 11 | 12 | 13 => 1,
-        14 => 3,
+        9 => 1,
+        11 => 1,
+        12 => 1,
         _ => 2,
     }
 }
@@ -53,10 +53,8 @@ fn record_of(kind: u8, body: &[u8]) -> Record
     requires { is_kind kind ≡ true }
     ensures { result ≡ record_of kind body.now }
 {
-    let first = byte_at(body, 0);
     let second = byte_at(body, 1);
-    let third = byte_at(body, 2);
-    let a = Rank(first);
+    let a = Rank(byte_at(body, 0));
     let b = Rank(second);
     match kind {
         1 => Record::Start(a, second),
@@ -70,9 +68,7 @@ fn record_of(kind: u8, body: &[u8]) -> Record
         9 => Record::Land(a),
         10 => Record::Part(a, b),
         11 => Record::End(a),
-        12 => Record::Look(a),
-        13 => Record::Issue(User(first)),
-        _ => Record::Grant(User(first), b, third as Value),
+        _ => Record::Look(a),
     }
 }
 

@@ -1,11 +1,9 @@
-// The records of the step log. Paper 01, "The step log"; paper 02, change 5.
-use access::User;
+// The records of the step log. Paper 01, "The step log".
 use transit::{Rank, Value};
 
 pub mod decode;
 
-// A record: its kind, and its body in the log's order. A host is a plain byte. The byte of a `Grant` that gives a right, 1, or withdraws
-// it, 0, has the width of a value, so that it lies where a send's value does.
+// A record: its kind, and its body in the log's order. A host is a plain byte.
 #[derive(Drop)]
 pub enum Record {
     Start(Rank, u8),
@@ -20,8 +18,6 @@ pub enum Record {
     Part(Rank, Rank),
     End(Rank),
     Look(Rank),
-    Issue(User),
-    Grant(User, Rank, Value),
 }
 
 // What stands at a position of a log: a whole record and the position after it; a kind that is none; or the log's end, or a body cut short.

@@ -1,9 +1,9 @@
 -- Whole columns of a roster: what a pass that loads one has made of it so far, and what one that unloads it has read. Assumes nothing.
-use Rattle.std.specs.Prelude.{Bool, ◌≡◌, List, ℕ, ◌+◌, ◌*◌, ◌<◌, ◌≤◌, length, get_or}
+use Rattle.std.specs.Prelude.{◌≡◌, List, ℕ, ◌+◌, ◌*◌, ◌<◌, ◌≤◌, length, get_or}
 use Rattle.base.specs.Lists.{tabulate}
 use Rattle.transit.specs.Message.{ranks}
 use Rattle.broker.specs.Names.{unknown}
-use Rattle.broker.specs.State.{State, issuer, with_access}
+use Rattle.broker.specs.State.{State}
 use Rattle.broker.specs.declared.process.Process.{Process}
 use Rattle.broker.specs.declared.process.Vmid.{Vmid}
 use Rattle.roster.specs.Roster.{location_in, Whole}
@@ -11,30 +11,12 @@ use Rattle.roster.specs.Roster.{location_in, Whole}
 -- all processes of a state
 abbrev pub with_processes : List Process → State → State
 with_processes ps s =
-    record {
-      processes = ps;
-      locations = s.locations;
-      links = s.links;
-      drawn = s.drawn;
-      unread = s.unread;
-      access = s.access;
-    }
+    record { processes = ps; locations = s.locations; links = s.links; drawn = s.drawn; unread = s.unread }
 
 -- the numbers drawn on all hosts
 abbrev pub with_all_drawn : List ℕ → State → State
 with_all_drawn ns s =
-    record {
-      processes = s.processes;
-      locations = s.locations;
-      links = s.links;
-      drawn = ns;
-      unread = s.unread;
-      access = s.access;
-    }
-
--- all rights
-abbrev pub with_rights : List Bool → State → State
-with_rights given s = with_access (record { issuer = issuer s; rights = given }) s
+    record { processes = s.processes; locations = s.locations; links = s.links; drawn = ns; unread = s.unread }
 
 -- a's table among the tables: "one row an array of sixteen"
 abbrev pub row_of : ℕ → List Vmid → List Vmid

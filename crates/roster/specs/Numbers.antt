@@ -1,8 +1,6 @@
 -- What a number of a roster stands for: every number stands for something, and zero for what a fresh desk has.
--- Paper 01, "Names and places"; paper 02, change 5. Assumes nothing.
-use Rattle.std.specs.Prelude.{Bool, not, cond, ℕ, ◌/◌, ◌%◌, eqb}
-use Rattle.access.specs.Access.{user}
-use Rattle.access.specs.declared.User.{User}
+-- Paper 01, "Names and places". Assumes nothing.
+use Rattle.std.specs.Prelude.{cond, ℕ, ◌/◌, ◌%◌, eqb}
 use Rattle.broker.specs.Names.{vmid}
 use Rattle.transit.specs.Message.{rank}
 use Rattle.broker.specs.declared.link.Backlog.{Backlog}
@@ -46,11 +44,3 @@ link_of w = record { connection = line_of (w % 4); backlog = await_of (w / 4) }
 -- how many numbers are drawn on a host, in the lowest sixteen bits
 abbrev pub drawn_of : ℕ → ℕ
 drawn_of w = w % 65536
-
--- who issues the records, in the lowest eight bits
-abbrev pub issuer_of : ℕ → User
-issuer_of w = user (w % 256)
-
--- whether a right is given
-abbrev pub right_of : ℕ → Bool
-right_of w = not (eqb w 0)

@@ -1,8 +1,6 @@
--- The state that a roster holds: seven columns, one behind the other, of standings (16), calls (16), table entries (256), links (256),
--- numbers drawn (8), the issuer (1) and rights (48). Paper 01, "Names and places"; paper 02, change 5. Assumes nothing.
-use Rattle.std.specs.Prelude.{Bool, ◌≡◌, List, ℕ, ◌+◌, length, get_or}
-use Rattle.access.specs.Access.{rights}
-use Rattle.access.specs.declared.Access.{Access}
+-- The state that a roster holds: five columns, one behind the other, of standings (16), calls (16), table entries (256), links (256)
+-- and numbers drawn (8). Paper 01, "Names and places". Assumes nothing.
+use Rattle.std.specs.Prelude.{◌≡◌, List, ℕ, ◌+◌, length, get_or}
 use Rattle.base.specs.Lists.{tabulate}
 use Rattle.broker.specs.Names.{hosts}
 use Rattle.transit.specs.Message.{ranks, cells}
@@ -11,9 +9,9 @@ use Rattle.broker.specs.State.{State}
 use Rattle.broker.specs.declared.link.Link.{Link}
 use Rattle.broker.specs.declared.process.Process.{Process}
 use Rattle.broker.specs.declared.process.Vmid.{Vmid}
-use Rattle.roster.specs.Numbers.{vmid_of, status_of, request_of, link_of, drawn_of, issuer_of, right_of}
+use Rattle.roster.specs.Numbers.{vmid_of, status_of, request_of, link_of, drawn_of}
 
--- Where each column behind the standings starts, and how long all seven are.
+-- Where each column behind the standings starts, and how long all five are.
 abbrev pub REQUESTS : ℕ
 REQUESTS = 16
 
@@ -26,14 +24,8 @@ LINKS = 288
 abbrev pub DRAWN : ℕ
 DRAWN = 544
 
-abbrev pub ISSUER : ℕ
-ISSUER = 552
-
-abbrev pub GRANTS : ℕ
-GRANTS = 553
-
 abbrev pub roster_length : ℕ
-roster_length = 601
+roster_length = 552
 
 -- a rank's process: its standing and its call
 abbrev pub process_in : List ℕ → ℕ → Process
@@ -51,14 +43,6 @@ link_in l k = link_of (get_or l (LINKS + k) 0)
 abbrev pub drawn_in : List ℕ → ℕ → ℕ
 drawn_in l k = drawn_of (get_or l (DRAWN + k) 0)
 
--- a right, by its cell
-abbrev pub right_in : List ℕ → ℕ → Bool
-right_in l k = right_of (get_or l (GRANTS + k) 0)
-
--- who issues the records, and the rights
-abbrev pub access_in : List ℕ → Access
-access_in l = record { issuer = issuer_of (get_or l ISSUER 0); rights = tabulate rights (right_in l) }
-
 -- the state that a roster holds, without messages
 unfoldable pub ranks_of : List ℕ → State
 ranks_of l =
@@ -68,10 +52,9 @@ ranks_of l =
       links = tabulate cells (link_in l);
       drawn = tabulate hosts (drawn_in l);
       unread = nothing;
-      access = access_in l;
     }
 
--- all seven columns are there
+-- all five columns are there
 abbrev pub Whole : List ℕ → Type 0
 Whole roster = length roster ≡ roster_length
 

@@ -1,16 +1,14 @@
-// What is known of the ranks in a run: standing, call, table, line and await towards each other rank, the numbers drawn on hosts, who
-// issues the records and the rights, in one array of numbers that is lent, behind typed reads and stores. Paper 01, "Names and places";
-// paper 02, change 5.
+// What is known of the ranks in a run: standing, call, table, line and await towards each other rank, and the numbers drawn on hosts,
+// in one array of numbers that is lent, behind typed reads and stores. Paper 01, "Names and places".
 // Past a column's end a read gives what a fresh desk has, and a store changes nothing.
 ghost use Rattle.std.specs.Prelude.{◌≡◌};
 ghost use Rattle.broker.specs.State.{cell};
 
 use transit::{RANKS, Rank};
 
-pub const ROSTER_LENGTH: usize = 601;
+pub const ROSTER_LENGTH: usize = 552;
 
-// Seven columns, one behind the other: standings (16), calls (16), table entries (256), links (256), numbers drawn (8), the issuer (1),
-// rights (48).
+// Five columns, one behind the other: standings (16), calls (16), table entries (256), links (256), numbers drawn (8).
 // All zeros is the fresh state.
 pub type Roster = [u64; ROSTER_LENGTH];
 
@@ -22,10 +20,6 @@ pub const LOCATIONS: usize = 32;
 pub const LINKS: usize = 288;
 
 pub const DRAWN: usize = 544;
-
-pub const ISSUER: usize = 552;
-
-pub const GRANTS: usize = 553;
 
 // Where `a`'s entry for `b` stands among sixteen rows of sixteen.
 pub fn cell(a: Rank, b: Rank) -> usize

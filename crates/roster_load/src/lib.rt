@@ -1,5 +1,5 @@
 // Between the two forms of one state: a roster cleared, loaded from a state by value, and unloaded into one.
-// Paper 01, "Where each language form goes": the tables by value go row by row, a row an array of sixteen. Paper 02, change 5.
+// Paper 01, "Where each language form goes": the tables by value go row by row, a row an array of sixteen.
 ghost use Rattle.std.specs.Prelude.{◌≡◌, ◌<◌};
 ghost use Rattle.transit.specs.Message.{ranks};
 ghost use Rattle.transit.specs.Unread.{nothing};
@@ -11,7 +11,6 @@ use broker::link::{Backlog, Connection, Link};
 use broker::process::{Process, Request, Status, Vmid};
 use broker::state::Broker;
 use roster::{DRAWN, LINKS, LOCATIONS, REQUESTS, ROSTER_LENGTH, Roster};
-use roster_access::{access_in, load_access};
 use roster_numbers::{
     decode_drawn, decode_link, decode_request, decode_standing, decode_vmid, encode_drawn,
     encode_link, encode_request, encode_standing, encode_vmid,
@@ -121,12 +120,10 @@ pub fn load(broker: Broker, roster: &mut Roster)
     let locations = broker.locations;
     let links = broker.links;
     let drawn = broker.drawn;
-    let access = broker.access;
     load_processes(processes, roster);
     load_locations(locations, roster);
     load_links(links, roster);
     load_drawn(drawn, roster);
-    load_access(access, roster);
 }
 
 // All standings and calls, out of the roster.
@@ -236,12 +233,10 @@ pub fn unload(broker: Broker, roster: &Roster) -> Broker
     let locations = locations_in(roster);
     let links = links_in(roster);
     let drawn = drawn_in(roster);
-    let access = access_in(roster);
     let mut next = broker;
     next.processes = processes;
     next.locations = locations;
     next.links = links;
     next.drawn = drawn;
-    next.access = access;
     next
 }

@@ -1,4 +1,4 @@
-// What a record does that passed its checks, by its kind. Paper 01, "The step log"; paper 02, change 5.
+// What a record does that passed its checks, by its kind. Paper 01, "The step log".
 ghost use Rattle.std.proofs.Math.Option.{none};
 ghost use Rattle.std.specs.Prelude.{◌≡◌};
 ghost use Rattle.protocol.specs.Checks.{refusal};
@@ -34,7 +34,5 @@ pub fn apply(
         Record::Part(a, b) => kind_part::part(a, b, slots, roster),
         Record::End(r) => kind_end::end(r, roster),
         Record::Look(r) => kind_look::look(r, slots, contents),
-        Record::Issue(u) => kind_issue::issue(u, roster),
-        Record::Grant(u, r, right) => kind_grant::grant(u, r, right, roster),
     }
 }

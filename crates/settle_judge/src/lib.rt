@@ -1,4 +1,4 @@
-// The verdict on a record, by its kind: the first check that applies. Paper 01, "Where each step is checked"; paper 02, change 5.
+// The verdict on a record, by its kind: the first check that applies. Paper 01, "Where each step is checked".
 ghost use Rattle.desk.specs.Desk.{desk_of, Desk, Judges};
 
 use record::Record;
@@ -23,7 +23,5 @@ pub fn judge(read: Record, slots: &Slots, contents: &Contents, roster: &Roster) 
         Record::Part(a, b) => kind_part::part_verdict(a, b, roster),
         Record::End(r) => kind_end::end_verdict(r, slots, contents, roster),
         Record::Look(r) => kind_look::look_verdict(r, slots, contents, roster),
-        Record::Issue(u) => kind_issue::issue_verdict(u),
-        Record::Grant(u, r, right) => kind_grant::grant_verdict(u, r, right, roster),
     }
 }

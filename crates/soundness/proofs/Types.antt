@@ -28,6 +28,5 @@ typed broker vs good =
         sent_long = rw length-map at fields.1.1.1.1.0.1.1.1.1.0.1.0.1;
       };
       numbered = λ h _. omega (arith, elem_fits_field w16 w16 broker.drawn _ h drawn.1.1 tt);
-      rights_long = rw length-map at fields.1.1.1.1.1.0.1.1.1.0.1.0.1;
       held = held_count broker.transit _ fields.1.1.1.1.0;
     }

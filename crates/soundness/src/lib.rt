@@ -1,5 +1,4 @@
-// The test of soundness: who issues the records, one pass over the ranks, one over the pairs of ranks, one over the messages. Paper 01,
-// "Sound states"; paper 02, change 5.
+// The test of soundness: one pass over the ranks, one over the pairs of ranks, one over the messages. Paper 01, "Sound states".
 // The parts have crates of their own. There, tests of small values are joined by `&` and `|`, which evaluate both sides: that costs less
 // than a jump.
 ghost use Rattle.std.specs.Prelude.{◌≡◌};
@@ -15,11 +14,6 @@ use soundness_ranks::ranks_sound;
 pub fn is_sound(broker: Broker) -> bool
     ensures { result ≡ sound (view broker) }
 {
-    let access = broker.access;
-    let issuer = access.issuer;
-    if !issuer.is_known() {
-        return false;
-    }
     let drawn = broker.drawn;
     let processes = broker.processes;
     let links = broker.links;

@@ -1,12 +1,10 @@
 // The state that is being built, with one of its parts changed.
 ghost use Rattle.std.specs.Prelude.{◌<◌};
-ghost use Rattle.access.specs.Access.{rights};
 ghost use Rattle.transit.specs.Message.{ranks, cells};
 
 use crate::number::numbers_in;
 use crate::part::{link_after, message, process_after, running_number, vmid};
 use crate::word::{Word, word_of};
-use access::{Access, RIGHTS, User};
 use broker::process::Vmid;
 use broker::state::Broker;
 use libc::STDOUT_FILENO;
@@ -128,36 +126,6 @@ fn with_sent(broker: Broker, a: u64, b: u64, sent: u64) -> Broker {
     with_transit(broker, with_count(transit, a, b, sent))
 }
 
-fn with_issuer(broker: Broker, u: u64) -> Broker {
-    let access = broker.access;
-    let rights = access.rights;
-    let issued = Access {
-        issuer: User((u % 256) as u8),
-        rights: rights,
-    };
-    let mut next = broker;
-    next.access = issued;
-    next
-}
-
-// The place of the right of one of users 1 to 3 over a rank. The list names no other user where a state has a place for each.
-fn right_place(u: u64, a: u64) -> usize
-    ensures { result < rights }
-{
-    RANKS * ((u as usize % 3 + 2) % 3) + place_of(a)
-}
-
-fn with_right(broker: Broker, u: u64, a: u64) -> Broker {
-    let mut access = broker.access;
-    let at = right_place(u, a);
-    if at < RIGHTS {
-        access.rights[at] = true;
-    }
-    let mut next = broker;
-    next.access = access;
-    next
-}
-
 // A line that is none of the list's is printed, so that the output differs.
 fn complain(line: &[u8]) {
     io::write_all(STDOUT_FILENO, line);
@@ -179,8 +147,6 @@ pub fn changed(broker: Broker, line: &[u8]) -> Broker {
         Word::Messages => with_messages(broker, n[0], n[1], n[2], n[3], n[4]),
         Word::Numbered => with_message(broker, message(n[0], n[1], n[2], n[3], n[4])),
         Word::Sent => with_sent(broker, n[0], n[1], n[2]),
-        Word::Issuer => with_issuer(broker, n[0]),
-        Word::Right => with_right(broker, n[0], n[1]),
         Word::Remark => broker,
         _ => {
             complain(line);

@@ -1,5 +1,4 @@
 // Whether two states are the same, part by part.
-use access::{Access, RIGHTS};
 use broker::link::{Backlog, Connection, Link};
 use broker::process::{Process, Request, Status, Vmid};
 use broker::state::Broker;
@@ -150,24 +149,12 @@ fn same_transit(a: Transit, b: Transit) -> bool {
     a.count == b.count && same_messages(a, b) && same_sent(a, b)
 }
 
-fn same_access(a: Access, b: Access) -> bool {
-    for i in 0..RIGHTS {
-        if a.rights[i] != b.rights[i] {
-            return false;
-        }
-    }
-    a.issuer.0 == b.issuer.0
-}
-
 pub fn same(a: Broker, b: Broker) -> bool {
     let before = a.transit;
     let after = b.transit;
-    let issued = a.access;
-    let issues = b.access;
     same_processes(a, b)
         && same_locations(a, b)
         && same_links(a, b)
         && same_drawn(a, b)
         && same_transit(before, after)
-        && same_access(issued, issues)
 }

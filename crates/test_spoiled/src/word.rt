@@ -18,8 +18,6 @@ pub enum Word {
     Messages,
     Numbered,
     Sent,
-    Issuer,
-    Right,
     Sound,
     Unsound,
     // An empty line, and one that only the reader reads.
@@ -28,8 +26,8 @@ pub enum Word {
     Unknown,
 }
 
-// The words of a list, ten in each half of their letters.
-const WORDS: usize = 20;
+// The words of a list, nine in each half of their letters.
+const WORDS: usize = 18;
 
 // The byte at a position, and a space past the end.
 fn byte_at(text: &[u8], at: usize) -> u8 {
@@ -39,11 +37,11 @@ fn byte_at(text: &[u8], at: usize) -> u8 {
 // The letter of a word at a position. Each word takes nine bytes here, with the space that ends it.
 fn letter_of(number: usize, at: usize) -> u8 {
     let first =
-        b"fresh    running  moving   ended    drawn    table    tables   call     plain    notice   ";
+        b"fresh    running  moving   ended    drawn    table    tables   call     plain    ";
     let second =
-        b"unheeded marked   message  messages numbered sent     issuer   right    sound    unsound  ";
-    let within = 9 * (number % 10) + at % 9;
-    if number < 10 {
+        b"notice   unheeded marked   message  messages numbered sent     sound    unsound  ";
+    let within = 9 * (number % 9) + at % 9;
+    if number < 9 {
         byte_at(first, within)
     } else {
         byte_at(second, within)
@@ -99,10 +97,8 @@ pub fn word_of(text: &[u8]) -> Word {
         13 => Word::Messages,
         14 => Word::Numbered,
         15 => Word::Sent,
-        16 => Word::Issuer,
-        17 => Word::Right,
-        18 => Word::Sound,
-        19 => Word::Unsound,
+        16 => Word::Sound,
+        17 => Word::Unsound,
         _ => Word::Unknown,
     }
 }

@@ -1,4 +1,4 @@
--- The checks that most kinds share, as tests of the parts of the state that they speak of, in the order of the table.
+-- The checks that most kinds share, as tests of the parts of the state that they speak of, in the order of their numbers.
 -- Paper 01, "Where each step is checked". Assumes nothing.
 use Rattle.std.specs.Prelude.{not, ◌&&◌, List, [], ◌∷◌}
 use Rattle.transit.specs.Message.{is_same_rank, is_rank}

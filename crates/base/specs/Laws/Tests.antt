@@ -57,10 +57,6 @@ pub or_false_left : (a b : Bool) → (a || b) ≡ false → a ≡ false
 or_false_left true b h = h
 or_false_left false b h = refl
 
-pub or_false_right : (a b : Bool) → (a || b) ≡ false → b ≡ false
-or_false_right true b h = cc
-or_false_right false b h = h
-
 -- a test passes wherever one does from which it follows
 pub if_so_lem : (a b : Bool) → (a ≡ true → b ≡ true) → (not a || b) ≡ true
 if_so_lem true b follows = follows refl

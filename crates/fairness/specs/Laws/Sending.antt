@@ -17,22 +17,7 @@ use Rattle.protocol.specs.Sound.{sound}
 use Rattle.broker.specs.State.{State, messages}
 use Rattle.protocol.specs.Step.{apply}
 use Rattle.record.specs.declared.Record.{Record}
-use Rattle.record.specs.declared.Record.TheVariants.{
-  Start,
-  Call,
-  Route,
-  Send,
-  Take,
-  Move,
-  Heed,
-  Drain,
-  Land,
-  Part,
-  End,
-  Look,
-  Issue,
-  Grant,
-}
+use Rattle.record.specs.declared.Record.TheVariants.{Start, Call, Route, Send, Take, Move, Heed, Drain, Land, Part, End, Look}
 use Rattle.ordering.specs.Claim.{Reading, after, accepted}
 use Rattle.ordering.specs.Laws.Runs.{along}
 use Rattle.fairness.specs.Sending.{letters, posted, counts_after, letters_sent, less_taken, less_all_taken, KeptInOrder}
@@ -59,8 +44,6 @@ module _ (s : State) where
   core_letters (Part a b) p more = refl
   core_letters (End r) p more = refl
   core_letters (Look r) p more = refl
-  core_letters (Issue u) p more = refl
-  core_letters (Grant u r n) p more = refl
 
   core_counts : (r : Record) → counts_after s.unread.sent r ≡ (core_step r (core s)).sent
   core_counts (Start r h) = refl
@@ -75,8 +58,6 @@ module _ (s : State) where
   core_counts (Part a b) = refl
   core_counts (End r) = refl
   core_counts (Look r) = refl
-  core_counts (Issue u) = refl
-  core_counts (Grant u r n) = refl
 
   module _ (r : Record) (h : sound s ≡ true) (p : refusal s r ≡ none) where
     -- What is unread after it, before all that is sent later.

@@ -43,22 +43,7 @@ use Rattle.protocol.specs.Sound.{sound}
 use Rattle.broker.specs.State.{State, messages}
 use Rattle.protocol.specs.Step.{apply}
 use Rattle.record.specs.declared.Record.{Record}
-use Rattle.record.specs.declared.Record.TheVariants.{
-  Start,
-  Call,
-  Route,
-  Send,
-  Take,
-  Move,
-  Heed,
-  Drain,
-  Land,
-  Part,
-  End,
-  Look,
-  Issue,
-  Grant,
-}
+use Rattle.record.specs.declared.Record.TheVariants.{Start, Call, Route, Send, Take, Move, Heed, Drain, Land, Part, End, Look}
 use Rattle.ordering.specs.Claim.{Reading, Entry, after, accepted}
 use Rattle.fairness.specs.Laws.Sending.{step_letters, step_counts}
 use Rattle.ordering.specs.Laws.Runs.{entry, along}
@@ -211,8 +196,6 @@ module _ (r : Rank) where
         (λ (k : Rank). refusal s (Look k) ≡ none → Serves (apply (Look k) s).state es end → Serves s (entry (Look k) s ∷ es) end)
         (sym (same_rank_eq q r t)) look_serves p rest)
         (λ t. others_serve (Look q) p t refl rest)
-    serves_step (Issue u) p rest = others_serve (Issue u) p refl refl rest
-    serves_step (Grant u q n) p rest = others_serve (Grant u q n) p refl refl rest
 
   -- So it is along every list of steps from a sound state.
   serves : (xs : List Reading) (s : State) → sound s ≡ true → Serves s (accepted s xs) (after s xs)

@@ -7,7 +7,7 @@ use Rattle.std.proofs.Math.Nat.{zero-add, suc-add}
 use Rattle.std.proofs.Math.ListN.{get_or-map}
 use Rattle.base.specs.Laws.Below.{all_below_at}
 use Rattle.base.specs.Laws.Tests.{by_equal}
-use Rattle.record.specs.Kind.{Field, rank_byte, host_byte, value_bytes, user_byte, right_byte, field_length, fields_length}
+use Rattle.record.specs.Kind.{Field, rank_byte, host_byte, value_bytes, field_length, fields_length}
 use Rattle.record.specs.Record.{bodies, fields_of, body_length}
 use Rattle.generator_draw.specs.Draw.{words, draw}
 use Rattle.generator_draw.specs.Laws.Draw.{draw_word, draw_zero}
@@ -28,8 +28,6 @@ length_drawn : (f : Field) (word : ℕ) → length (drawn f word) ≡ field_leng
 length_drawn rank_byte word = refl
 length_drawn host_byte word = refl
 length_drawn value_bytes word = refl
-length_drawn user_byte word = refl
-length_drawn right_byte word = refl
 
 length_body : (fs : List Field) (word : ℕ) → length (body fs word) ≡ fields_length fs
 length_body [] word = refl

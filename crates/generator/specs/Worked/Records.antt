@@ -10,7 +10,7 @@ use Rattle.record.specs.declared.Record.TheVariants.{Start, Call, Look}
 use Rattle.generator.specs.Records.{InRange, Holds, ends, reads}
 
 -- 2: a kind that is none
-pub kind_unknown : Holds (0xFF ∷ 1 ∷ []) 1 0 → ⊥
+pub kind_unknown : Holds (0x0D ∷ 1 ∷ []) 1 0 → ⊥
 unfolding decode record_of
 kind_unknown (reads e range rest) = let clash : ◌≡◌ {A = ℕ} 0 1 = cc in omega arith
 

@@ -7,12 +7,11 @@ returns : tie.Need-returns
 returns c =
     let unread = c.before in
     let request = unread.before.before in
-    let right = request.before.before in
-    let standing = right.before in
-    rw (c.unless4.ensures, unread.is-nothing.ensures, unread.before.unless3.ensures, request.is_open.ensures)
-    (rw (request.before.unless2.ensures, right.unless.ensures, standing.running.ensures, standing.before.on_one.ensures))
+    let standing = request.before.before in
+    rw (c.unless3.ensures, unread.is-nothing.ensures, unread.before.unless2.ensures, request.is_open.ensures)
+    (rw (request.before.unless.ensures, standing.running.ensures, standing.before.on_one.ensures))
 
 pub end-checked-spec : {M : Type 1} → statement M
 end-checked-spec =
     tie.close (tie.spec (λ c. search rules) (λ c. search rules) (λ c. search rules) (λ c. search rules) (λ c. search rules)
-    (λ c. search rules) (λ c. search rules) (λ c. search rules) returns)
+    (λ c. search rules) (λ c. search rules) returns)

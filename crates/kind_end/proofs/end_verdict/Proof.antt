@@ -9,13 +9,11 @@ returns : tie.Need-returns
 returns c =
     let found = c.before in
     let alone = found.before in
-    let right = alone.before.before in
-    let args = right.before.before.args in
+    let args = alone.before.before.before.args in
     rw (by_tests (desk_of args.slots.now args.contents.now args.roster.now) args.r)
     (rw (c.end-checked.ensures, found.first_to.ensures, alone.alone.ensures, alone.before.request-of.ensures)
-    (rw (right.is-permitted.ensures, right.before.standing_of.ensures)))
+    (rw alone.before.before.standing_of.ensures))
 
 pub end-verdict-spec : {M : Type 1} → statement M
 end-verdict-spec =
-    tie.close (tie.spec (λ c. search rules) (λ c. search rules) (λ c. search rules) (λ c. search rules) (λ c κs. search rules) (λ c. search rules)
-    returns)
+    tie.close (tie.spec (λ c. search rules) (λ c. search rules) (λ c. search rules) (λ c κs. search rules) (λ c. search rules) returns)

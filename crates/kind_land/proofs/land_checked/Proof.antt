@@ -4,10 +4,8 @@ use Rattle.kind_land.proofs.land_checked.Statement.{statement}
 use Rattle.kind_land.proofs.land_checked.Tie as tie
 
 returns : tie.Need-returns
-returns c =
-    let right = c.before in
-    rw (c.unless2.ensures, right.unless.ensures, right.before.migrating.ensures, right.before.before.on_one.ensures)
+returns c = rw (c.unless.ensures, c.before.migrating.ensures, c.before.before.on_one.ensures)
 
 pub land-checked-spec : {M : Type 1} → statement M
 land-checked-spec =
-    tie.close (tie.spec (λ c. search rules) (λ c. search rules) (λ c. search rules) (λ c. search rules) returns)
+    tie.close (tie.spec (λ c. search rules) (λ c. search rules) (λ c. search rules) returns)

@@ -8,11 +8,10 @@ use Rattle.kind_land.proofs.land_verdict.Tie as tie
 
 returns : tie.Need-returns
 returns c = λ u.
-    let right = c.before.before in
-    let args = right.before.before.args in
+    let args = c.before.before.before.args in
     rw (by_tests (with_unread u (ranks_of args.roster.now)) args.r, c.land-checked.ensures)
-    (rw (c.before.awaits.ensures, right.is-permitted.ensures, right.before.standing_of.ensures))
+    (rw (c.before.awaits.ensures, c.before.before.standing_of.ensures))
 
 pub land-verdict-spec : {M : Type 1} → statement M
 land-verdict-spec =
-    tie.close (tie.spec (λ c. search rules) (λ c. search rules) (λ c. search rules) (λ c. search rules) returns)
+    tie.close (tie.spec (λ c. search rules) (λ c. search rules) (λ c. search rules) returns)

@@ -9,11 +9,10 @@ use Rattle.kind_move.proofs.move_verdict.Tie as tie
 returns : tie.Need-returns
 returns c = λ u.
     let request = c.before.before in
-    let right = request.before in
-    let args = right.before.before.args in
+    let args = request.before.before.args in
     rw (by_tests (with_unread u (ranks_of args.roster.now)) args.r args.host, c.move-checked.ensures)
-    (rw (c.before.drawn-on.ensures, request.request-of.ensures, right.is-permitted.ensures, right.before.standing_of.ensures))
+    (rw (c.before.drawn-on.ensures, request.request-of.ensures, request.before.standing_of.ensures))
 
 pub move-verdict-spec : {M : Type 1} → statement M
 move-verdict-spec =
-    tie.close (tie.spec (λ c. search rules) (λ c. search rules) (λ c. search rules) (λ c. search rules) (λ c. search rules) returns)
+    tie.close (tie.spec (λ c. search rules) (λ c. search rules) (λ c. search rules) (λ c. search rules) returns)

@@ -4,7 +4,7 @@ use Rattle.std.specs.Prelude.{◌≡◌, ℕ}
 use Rattle.transit.specs.declared.Rank.{Rank}
 use Rattle.protocol.specs.Checks.{refusal}
 use Rattle.protocol.specs.Laws.Opened.{opened_checks}
-use Rattle.broker.specs.State.{State, status, request, drawn_on, permitted}
+use Rattle.broker.specs.State.{State, status, request, drawn_on}
 use Rattle.record.specs.declared.Record.TheVariants.{Move}
 use Rattle.verdict.specs.Laws.Verdict.{judged_first}
 use Rattle.verdict.specs.Verdict.{passed, judged}
@@ -13,6 +13,6 @@ use Rattle.kind_move.specs.Tests.{move_tests}
 -- its refusal, by its tests at the parts of a state
 pub by_tests :
     (s : State) (r : Rank) (h : ℕ) →
-    refusal s (Move r h) ≡ judged passed (move_tests r h (status s r) (permitted s r) (request s r) (drawn_on s h))
+    refusal s (Move r h) ≡ judged passed (move_tests r h (status s r) (request s r) (drawn_on s h))
 unfolding opened_checks
 by_tests s r h = rw judged_first (simp (and-true, or-false))

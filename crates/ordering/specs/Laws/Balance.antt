@@ -26,22 +26,7 @@ use Rattle.broker.specs.State.{State, messages}
 use Rattle.protocol.specs.Step.{apply}
 use Rattle.record.specs.declared.Decoded.TheVariants.{Whole}
 use Rattle.record.specs.declared.Record.{Record}
-use Rattle.record.specs.declared.Record.TheVariants.{
-  Start,
-  Call,
-  Route,
-  Send,
-  Take,
-  Move,
-  Heed,
-  Drain,
-  Land,
-  Part,
-  End,
-  Look,
-  Issue,
-  Grant,
-}
+use Rattle.record.specs.declared.Record.TheVariants.{Start, Call, Route, Send, Take, Move, Heed, Drain, Land, Part, End, Look}
 use Rattle.ordering.specs.Claim.{Reading, Entry, after, accepted, is_take, sent}
 use Rattle.ordering.specs.Laws.Runs.{entry, along}
 
@@ -110,8 +95,6 @@ module _ (a b : Rank) (f : Message → ℕ) (answer : Entry → ℕ) where
     step_balanced s (Part c d) sd p = sym (append-nil _)
     step_balanced s (End r) sd p = sym (append-nil _)
     step_balanced s (Look r) sd p = sym (append-nil _)
-    step_balanced s (Issue u) sd p = sym (append-nil _)
-    step_balanced s (Grant u r n) sd p = sym (append-nil _)
 
 -- Two balances, one after the other.
 balances_join : (t u v w x y z : List ℕ) → t ++ w ≡ v ++ y → u ++ x ≡ w ++ z → t ++ u ++ x ≡ v ++ (y ++ z)

@@ -20,22 +20,7 @@ use Rattle.protocol.specs.Sound.{sound}
 use Rattle.broker.specs.State.{State, fresh, cell}
 use Rattle.protocol.specs.Step.{apply}
 use Rattle.record.specs.declared.Record.{Record}
-use Rattle.record.specs.declared.Record.TheVariants.{
-  Start,
-  Call,
-  Route,
-  Send,
-  Take,
-  Move,
-  Heed,
-  Drain,
-  Land,
-  Part,
-  End,
-  Look,
-  Issue,
-  Grant,
-}
+use Rattle.record.specs.declared.Record.TheVariants.{Start, Call, Route, Send, Take, Move, Heed, Drain, Land, Part, End, Look}
 use Rattle.ordering.specs.Claim.{Reading, Entry, after, accepted, is_send, sent, taken}
 use Rattle.ordering.specs.Laws.Balance.{posted, Adds, balances}
 use Rattle.ordering.specs.Laws.Runs.{fresh_sound, entry, sent_cons, along}
@@ -69,8 +54,6 @@ module _ (a b : Rank) (ha : a.0 < ranks) (hb : b.0 < ranks) where
       of_kind (Part c d) p = omega arith
       of_kind (End r) p = omega arith
       of_kind (Look r) p = omega arith
-      of_kind (Issue u) p = omega arith
-      of_kind (Grant u r n) p = omega arith
 
   -- So does a list of steps.
   sends_counted : (xs : List Reading) (s : State) → sound s ≡ true

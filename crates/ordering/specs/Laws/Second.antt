@@ -5,7 +5,6 @@ use Rattle.std.proofs.Common.{sym, ap, subst, ◌∙◌}
 use Rattle.std.proofs.Math.Option.{none}
 use Rattle.std.proofs.lemmas.Bool.{not-true}
 use Rattle.std.proofs.lemmas.List.{get_or-replicate}
-use Rattle.access.specs.Access.{user}
 use Rattle.base.specs.Laws.Tests.{both_left, both_right}
 use Rattle.transit.specs.Message.{ranks, cells}
 use Rattle.protocol.specs.Checks.{refusal}
@@ -23,25 +22,9 @@ use Rattle.protocol.specs.Step.{apply}
 use Rattle.broker.specs.declared.process.Process.{Process}
 use Rattle.record.specs.declared.Decoded.TheVariants.{Whole}
 use Rattle.record.specs.declared.Record.{Record}
-use Rattle.record.specs.declared.Record.TheVariants.{
-  Start,
-  Call,
-  Route,
-  Send,
-  Take,
-  Move,
-  Heed,
-  Drain,
-  Land,
-  Part,
-  End,
-  Look,
-  Issue,
-  Grant,
-}
-use Rattle.ordering.specs.Claim.{Reading, is_bytes, are_bytes, Entry, after, accepted, records, taken, five_kinds, SecondHalf}
+use Rattle.record.specs.declared.Record.TheVariants.{Start, Call, Route, Send, Take, Move, Heed, Drain, Land, Part, End, Look}
+use Rattle.ordering.specs.Claim.{Reading, is_bytes, are_bytes, Entry, after, accepted, taken, five_kinds, SecondHalf}
 use Rattle.ordering.specs.Laws.Following.{Following, nothing_follows, follows_as}
-use Rattle.ordering.specs.Laws.Issued.{issued_by_one, unbroken_has_none}
 use Rattle.ordering.specs.Laws.Runs.{fresh_sound, entry, taken_cons, five_cons, along_readings, sound_after}
 use Rattle.ordering.specs.Laws.Sends.{send_stands}
 use Rattle.ordering.specs.Laws.Stands.{Standing, nothing_stands, start_stands, take_stands, move_stands, end_stands}
@@ -67,8 +50,6 @@ stands s q x (Land r) next hs quiet same reads p = nothing_stands s q x (Land r)
 stands s q x (Part a b) next hs quiet same reads p = nothing_stands s q x (Part a b) quiet refl refl (λ c d. refl)
 stands s q x (End r) next hs quiet same reads p = end_stands s q x next quiet same r reads p
 stands s q x (Look r) next hs quiet same reads p = nothing_stands s q x (Look r) quiet refl refl (λ c d. refl)
-stands s q x (Issue u) next hs quiet same reads p = nothing_stands s q x (Issue u) quiet refl refl (λ c d. refl)
-stands s q x (Grant u r n) next hs quiet same reads p = nothing_stands s q x (Grant u r n) quiet refl refl (λ c d. refl)
 
 -- from any quiet state with the core of s, a list with the five kinds and the takes of the entries, that leaves the core of the end; in
 -- bytes, where the readings are
@@ -115,7 +96,6 @@ fresh_quiet =
       calm =
           record {
             processes_long = refl;
-            by_zero = refl;
             links_long = refl;
             migrating = λ r hr. ap (λ (p : Process). is_migrating p.status) (get_or-replicate ranks r.0 idle idle hr);
             requests = λ r hr. ap (λ (p : Process). p.request) (get_or-replicate ranks r.0 idle idle hr);
@@ -128,14 +108,11 @@ second_half xs landed =
     let f = followed xs fresh fresh_sound (are_bytes xs) (λ t. t) fresh fresh_quiet refl in
     let end = after fresh xs in
     let end' = after fresh f.list in
-    let none_of_users_lem = unbroken_has_none none (records (accepted fresh f.list)) f.moves_unbroken in
     record {
       list = f.list;
       bytes = f.bytes;
       all_accepted = f.all_accepted;
       moves_unbroken = f.moves_unbroken;
-      by_user_zero = issued_by_one (user 0) f.list fresh fresh_sound refl none_of_users_lem;
-      none_of_users_lem = none_of_users_lem;
       same_steps = f.same_five;
       same_taken = f.same_taken;
       same_unread =

@@ -112,7 +112,7 @@ last_refused_is_not_all_accepted =
 
 -- Sent, taken and unread, from rank 0 to rank 1.
 
-pub only_a_send_has_a_value : map value_in every_kind ≡ 0 ∷ 0 ∷ 0 ∷ 7 ∷ 0 ∷ 0 ∷ 0 ∷ 0 ∷ 0 ∷ 0 ∷ 0 ∷ 0 ∷ 0 ∷ 0 ∷ []
+pub only_a_send_has_a_value : map value_in every_kind ≡ 0 ∷ 0 ∷ 0 ∷ 7 ∷ 0 ∷ 0 ∷ 0 ∷ 0 ∷ 0 ∷ 0 ∷ 0 ∷ 0 ∷ []
 only_a_send_has_a_value = refl
 
 -- sends and takes of this pair, with those of other pairs and a step of every kind between them

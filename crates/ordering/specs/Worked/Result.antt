@@ -1,9 +1,8 @@
 -- What a worked run comes to, and what is read from it: what each pair sent, took and has unread, and that a list is a second list.
 -- Assumes nothing.
-use Rattle.std.specs.Prelude.{◌≡◌, refl, Bool, true, ◌&&◌, List, [], ◌∷◌, ◌++◌, map, ℕ, get_or}
+use Rattle.std.specs.Prelude.{◌≡◌, Bool, true, ◌&&◌, List, [], ◌∷◌, ◌++◌, map, ℕ, get_or}
 use Rattle.std.proofs.Common.{sym, ap, ◌∙◌}
 use Rattle.std.proofs.Math.Option.{none}
-use Rattle.access.specs.Access.{user}
 use Rattle.base.specs.Laws.Lists.{select_select}
 use Rattle.base.specs.Lists.{select}
 use Rattle.transit.specs.Message.{is_same_rank, place_order}
@@ -18,24 +17,7 @@ use Rattle.broker.specs.declared.process.Process.{Process}
 use Rattle.broker.specs.declared.process.Request.TheVariants.{Absent}
 use Rattle.broker.specs.declared.process.Status.{Status}
 use Rattle.record.specs.declared.Record.{Record}
-use Rattle.record.specs.declared.Record.TheVariants.{
-  Start,
-  Call,
-  Route,
-  Send,
-  Take,
-  Move,
-  Heed,
-  Drain,
-  Land,
-  Part,
-  End,
-  Look,
-  Issue,
-  Grant,
-}
-use Rattle.ordering.specs.Laws.Issued.{issued_by_one, unbroken_has_none}
-use Rattle.ordering.specs.Laws.Runs.{fresh_sound}
+use Rattle.record.specs.declared.Record.TheVariants.{Start, Call, Route, Send, Take, Move, Heed, Drain, Land, Part, End, Look}
 use Rattle.ordering.specs.Worked.Account.{Account, account}
 use Rattle.ordering.specs.Claim.{
   Reading,
@@ -119,15 +101,11 @@ second xs ys r q there here bytes all moves five took holds processes =
     let same_values : (a b : Rank) → taken a b q.steps ≡ taken a b r.steps =
     λ a b. rw (← taken_of_takes a b q.steps, took) (taken_of_takes a b r.steps) in
     let same-processes = ap (λ (p : Result). p.processes) here ∙ processes ∙ sym (ap (λ (p : Result). p.processes) there) in
-    let unbroken-here = ap (λ (p : Result). unbroken none (records p.steps)) here ∙ moves in
-    let none_of_users_lem = unbroken_has_none none (records (accepted fresh ys)) unbroken-here in
     record {
       list = ys;
       bytes = λ first. bytes;
       all_accepted = all;
-      moves_unbroken = unbroken-here;
-      by_user_zero = issued_by_one (user 0) ys fresh fresh_sound refl none_of_users_lem;
-      none_of_users_lem = none_of_users_lem;
+      moves_unbroken = ap (λ (p : Result). unbroken none (records p.steps)) here ∙ moves;
       same_steps =
           ap (λ (p : Result). five_kinds p.steps) here ∙ five ∙ sym (ap (λ (p : Result). five_kinds p.steps) there);
       same_taken =
@@ -160,8 +138,6 @@ written (Land r) = Kind.land ∷ r.0 ∷ []
 written (Part a b) = Kind.part ∷ a.0 ∷ b.0 ∷ []
 written (End r) = Kind.end ∷ r.0 ∷ []
 written (Look r) = Kind.look ∷ r.0 ∷ []
-written (Issue u) = Kind.issue ∷ u.0 ∷ []
-written (Grant u r n) = Kind.grant ∷ u.0 ∷ r.0 ∷ n ∷ []
 
 abbrev pub readings : List Entry → List Reading
 readings = map (λ (e : Entry). whole (written e.read))

@@ -3,25 +3,9 @@
 -- definitions. Assumes nothing.
 use Rattle.std.specs.Prelude.{◌≡◌, refl, true, false, List, [], ◌∷◌, ◌++◌, map}
 use Rattle.std.proofs.Math.Option.{none}
-use Rattle.access.specs.Access.{user}
 use Rattle.transit.specs.Message.{rank}
 use Rattle.record.specs.declared.Record.{Record}
-use Rattle.record.specs.declared.Record.TheVariants.{
-  Start,
-  Call,
-  Route,
-  Send,
-  Take,
-  Move,
-  Heed,
-  Drain,
-  Land,
-  Part,
-  End,
-  Look,
-  Issue,
-  Grant,
-}
+use Rattle.record.specs.declared.Record.TheVariants.{Start, Call, Route, Send, Take, Move, Heed, Drain, Land, Part, End, Look}
 use Rattle.ordering.specs.Claim.{Entry, records, five_kinds, unbroken}
 use Rattle.ordering.specs.Worked.Result.{did}
 
@@ -39,9 +23,7 @@ every_kind =
     Land (rank 0) ∷
     Part (rank 0) (rank 1) ∷
     End (rank 0) ∷
-    Look (rank 0) ∷
-    Issue (user 1) ∷
-    Grant (user 1) (rank 0) 1 ∷ []
+    Look (rank 0) ∷ []
 
 abbrev pub every_entry : List Entry
 every_entry = map (λ (r : Record). did r 9 8) every_kind
@@ -54,17 +36,16 @@ five_of_every_kind = refl
 pub records_of_every_kind : records every_entry ≡ every_kind
 records_of_every_kind = refl
 
--- What may stand outside any move, kind by kind: all but a move that is not landed, a heed, a drain, a landing, a look, and what names a
--- user.
+-- What may stand outside any move, kind by kind: all but a move that is not landed, a heed, a drain, a landing and a look.
 pub outside_by_kind :
     map (λ (r : Record). unbroken none (r ∷ [])) every_kind ≡
-    true ∷ true ∷ true ∷ true ∷ true ∷ false ∷ false ∷ false ∷ false ∷ true ∷ true ∷ false ∷ false ∷ false ∷ []
+    true ∷ true ∷ true ∷ true ∷ true ∷ false ∷ false ∷ false ∷ false ∷ true ∷ true ∷ false ∷ []
 outside_by_kind = refl
 
 -- What may stand inside a move of rank 1, kind by kind: its heed and its drain.
 pub inside_by_kind :
     map (λ (r : Record). unbroken none (Move (rank 1) 2 ∷ r ∷ Land (rank 1) ∷ [])) every_kind ≡
-    false ∷ false ∷ false ∷ false ∷ false ∷ false ∷ true ∷ true ∷ false ∷ false ∷ false ∷ false ∷ false ∷ false ∷ []
+    false ∷ false ∷ false ∷ false ∷ false ∷ false ∷ true ∷ true ∷ false ∷ false ∷ false ∷ false ∷ []
 inside_by_kind = refl
 
 -- Everything that is allowed: all that may stand outside, before, between and behind moves with heeds and drains of their own.
@@ -131,12 +112,6 @@ landing_of_another_rank_breaks = refl
 
 pub look_outside_breaks : unbroken none (Look (rank 0) ∷ []) ≡ false
 look_outside_breaks = refl
-
-pub issue_outside_breaks : unbroken none (Issue (user 0) ∷ []) ≡ false
-issue_outside_breaks = refl
-
-pub grant_outside_breaks : unbroken none (Grant (user 1) (rank 0) 0 ∷ []) ≡ false
-grant_outside_breaks = refl
 
 pub heed_outside_breaks : unbroken none (Heed (rank 0) (rank 1) ∷ []) ≡ false
 heed_outside_breaks = refl

@@ -1,12 +1,10 @@
 -- What it takes for each kind to be accepted: the rows of the table of checks that speak of the kind, read as facts.
 -- Assumes nothing.
-use Rattle.std.specs.Prelude.{◌≡◌, refl, Bool, true, false, not, ◌&&◌, ◌||◌, ℕ, ◌<◌, ◌≤◌, eqb, leb, ltb}
+use Rattle.std.specs.Prelude.{◌≡◌, refl, Bool, true, false, not, ◌&&◌, ◌||◌, ℕ, ◌<◌, eqb, leb, ltb}
 use Rattle.std.proofs.Math.Option.{none}
-use Rattle.std.proofs.Common.{pos_of_ne-zero, ltb-true, leb-true, leb-false}
-use Rattle.std.proofs.lemmas.Bool.{eqb-false, not-false}
-use Rattle.access.specs.Access.{is_user, is_user_zero, users}
-use Rattle.access.specs.declared.User.{User}
-use Rattle.base.specs.Laws.Tests.{both_left, both_right, not_both, or_false_left, or_false_right}
+use Rattle.std.proofs.Common.{ltb-true, leb-false}
+use Rattle.std.proofs.lemmas.Bool.{not-false}
+use Rattle.base.specs.Laws.Tests.{both_left, both_right, not_both, or_false_left}
 use Rattle.base.specs.Lists.{tally}
 use Rattle.transit.specs.Message.{is_same_rank, between, to, at, is_rank, ranks}
 use Rattle.transit.specs.Unread.{limit, most_sent}
@@ -32,7 +30,7 @@ use Rattle.broker.specs.Names.{
   is_clear,
   is_unheeded,
 }
-use Rattle.broker.specs.State.{State, status, request, connection, backlog, drawn_on, messages, issuer, permitted}
+use Rattle.broker.specs.State.{State, status, request, connection, backlog, drawn_on, messages}
 use Rattle.answer.specs.declared.Refusal.TheVariants.{
   RankRange,
   HostRange,
@@ -56,30 +54,12 @@ use Rattle.answer.specs.declared.Refusal.TheVariants.{
   Full,
   NumbersSpent,
   SequenceSpent,
-  UserRange,
-  RightRange,
-  NoRight,
 }
 use Rattle.broker.specs.declared.link.Connection.{Connection}
 use Rattle.broker.specs.declared.link.Connection.TheVariants.{Closed, Open, Closing}
 use Rattle.broker.specs.declared.process.Status.{Status}
 use Rattle.broker.specs.declared.process.Status.TheVariants.{Unstarted, Running, Migrating, Ended}
-use Rattle.record.specs.declared.Record.TheVariants.{
-  Start,
-  Call,
-  Route,
-  Send,
-  Take,
-  Move,
-  Heed,
-  Drain,
-  Land,
-  Part,
-  End,
-  Look,
-  Issue,
-  Grant,
-}
+use Rattle.record.specs.declared.Record.TheVariants.{Start, Call, Route, Send, Take, Move, Heed, Drain, Land, Part, End, Look}
 
 -- a rank that is started, has not ended and does not migrate runs
 pub running_of : (t : Status) → is_started t ≡ true → is_ended t ≡ false → is_migrating t ≡ false → is_running t ≡ true
@@ -178,7 +158,6 @@ pub record MoveFits (s : State) (r : Rank) (h : ℕ) : Type 0 where
   pub one : One s r
   pub host : h < 8
   pub running : is_running (status s r) ≡ true
-  pub right : permitted s r ≡ true
   pub idle : is_open_request (request s r) ≡ false
   pub room : drawn_on s h < numbers
 
@@ -196,7 +175,6 @@ pub record DrainFits (s : State) (r p : Rank) : Type 0 where
 pub record LandFits (s : State) (r : Rank) : Type 0 where
   pub one : One s r
   pub migrating : is_migrating (status s r) ≡ true
-  pub right : permitted s r ≡ true
   pub clear : (p : Rank) → p.0 < ranks → is_clear (backlog s r p) ≡ true
 
 pub record PartFits (s : State) (a b : Rank) : Type 0 where
@@ -207,7 +185,6 @@ pub record PartFits (s : State) (a b : Rank) : Type 0 where
 pub record EndFits (s : State) (r : Rank) : Type 0 where
   pub one : One s r
   pub running : is_running (status s r) ≡ true
-  pub right : permitted s r ≡ true
   pub closed : (p : Rank) → p.0 < ranks → is_closed (connection s r p) ≡ true
   pub idle : is_open_request (request s r) ≡ false
   pub nothing : eqb (tally (to r) (messages s)) 0 ≡ true
@@ -216,13 +193,6 @@ pub record LookFits (s : State) (r : Rank) : Type 0 where
   pub one : One s r
   pub running : is_running (status s r) ≡ true
   pub unread : eqb (tally (to r) (messages s)) 0 ≡ false
-
-pub record GrantFits (s : State) (u : User) (r : Rank) (n : ℕ) : Type 0 where
-  pub in_range : r.0 < ranks
-  pub some : 0 < u.0
-  pub known : u.0 < users
-  pub byte : n ≤ 1
-  pub by_zero : is_user_zero (issuer s) ≡ true
 
 -- the rows on names and standing, read
 from_not : (b : Bool) → not b ≡ false → b ≡ true
@@ -322,7 +292,6 @@ move_fits s r h accepted =
       one = one;
       host = ltb-true h 8 (one_only (ltb h hosts) (from_not _ (passed HostRange)));
       running = running_of (status s r) one.started (passed HasEnded) (passed IsMigrating);
-      right = from_not _ (or_none _ (passed NoRight));
       idle = passed RequestOpen;
       room = leb-false numbers (drawn_on s h) (or_none (leb numbers (drawn_on s h)) (passed NumbersSpent));
     }
@@ -355,7 +324,6 @@ land_fits s r accepted =
     record {
       one = one_of s r (passed RankRange) (passed NotStarted);
       migrating = from_not _ (passed NotMigrating);
-      right = from_not _ (or_none _ (passed NoRight));
       clear = every_rank_at (λ q. is_clear (backlog s r q)) (from_not _ (passed BacklogLeft));
     }
 
@@ -378,7 +346,6 @@ end_fits s r accepted =
     record {
       one = one;
       running = running_of (status s r) one.started (passed HasEnded) (passed IsMigrating);
-      right = from_not _ (or_none _ (passed NoRight));
       closed = every_rank_at (λ q. is_closed (connection s r q)) (from_not _ (passed Connected));
       idle = passed RequestOpen;
       nothing = from_not _ (passed UnreadLeft);
@@ -393,22 +360,4 @@ look_fits s r accepted =
       one = one;
       running = running_of (status s r) one.started (passed HasEnded) (passed IsMigrating);
       unread = passed NothingUnread;
-    }
-
-pub issue_fits : (s : State) (u : User) → refusal s (Issue u) ≡ none → is_user u ≡ true
-unfolding opened_checks
-issue_fits s u accepted = one_only (is_user u) (from_not _ (or_none _ (passes s (Issue u) accepted UserRange)))
-
-pub grant_fits : (s : State) (u : User) (r : Rank) (n : ℕ) → refusal s (Grant u r n) ≡ none → GrantFits s u r n
-unfolding opened_checks
-grant_fits s u r n accepted =
-    let passed = passes s (Grant u r n) accepted in
-    let named = or_false_left (not (is_user u && true)) _ (passed UserRange) in
-    let other = or_false_right (not (is_user u && true)) _ (passed UserRange) in
-    record {
-      in_range = ltb-true r.0 ranks (one_only (is_rank r) (from_not _ (passed RankRange)));
-      some = pos_of_ne-zero (eqb-false u.0 0 (or_none (is_user_zero u) other));
-      known = ltb-true u.0 users (one_only (is_user u) (from_not _ named));
-      byte = leb-true n 1 (one_only (leb n 1) (from_not _ (passed RightRange)));
-      by_zero = from_not _ (passed NoRight);
     }

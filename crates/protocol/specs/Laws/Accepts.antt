@@ -1,11 +1,9 @@
 -- What is enough for a kind to be accepted: the facts of `Laws/Accepted`, read back as the rows of the table of checks.
 -- Assumes nothing.
-use Rattle.std.specs.Prelude.{true, ◌≡◌, ℕ}
+use Rattle.std.specs.Prelude.{◌≡◌, ℕ}
 use Rattle.std.proofs.Math.Option.{none}
-use Rattle.std.proofs.Common.{arith, lt-ltb, le-leb, ne_eqb}
+use Rattle.std.proofs.Common.{lt-ltb}
 use Rattle.std.proofs.lemmas.Bool.{lt-leb}
-use Rattle.access.specs.Access.{is_user}
-use Rattle.access.specs.declared.User.{User}
 use Rattle.transit.specs.declared.Rank.{Rank}
 use Rattle.protocol.specs.Checks.{refusal}
 use Rattle.protocol.specs.Laws.Accepted.{
@@ -19,7 +17,6 @@ use Rattle.protocol.specs.Laws.Accepted.{
   PartFits,
   EndFits,
   LookFits,
-  GrantFits,
   running_not_ended,
   running_not_migrating,
   migrating_not_ended,
@@ -30,7 +27,7 @@ use Rattle.protocol.specs.Laws.Opened.{opened_checks}
 use Rattle.protocol.specs.Laws.Ranks.{every_rank_of}
 use Rattle.broker.specs.Names.{is_closed, is_clear}
 use Rattle.broker.specs.State.{State, status, connection, backlog}
-use Rattle.record.specs.declared.Record.TheVariants.{Start, Call, Route, Send, Take, Move, Land, Part, End, Look, Issue, Grant}
+use Rattle.record.specs.declared.Record.TheVariants.{Start, Call, Route, Send, Take, Move, Land, Part, End, Look}
 
 pub start_accepted : (s : State) (r : Rank) (h : ℕ) → StartFits s r h → refusal s (Start r h) ≡ none
 unfolding opened_checks
@@ -106,7 +103,6 @@ move_accepted s r h f =
       lt-ltb _ _ f.host,
       running_not_ended (status s r) f.running,
       running_not_migrating (status s r) f.running,
-      f.right,
       f.idle,
       lt-leb _ _ f.room,
     )
@@ -119,7 +115,6 @@ land_accepted s r f =
       f.one.started,
       migrating_not_ended (status s r) f.migrating,
       f.migrating,
-      f.right,
       every_rank_of (λ p. is_clear (backlog s r p)) f.clear,
     )
 
@@ -147,7 +142,6 @@ end_accepted s r f =
       f.one.started,
       running_not_ended (status s r) f.running,
       running_not_migrating (status s r) f.running,
-      f.right,
       every_rank_of (λ p. is_closed (connection s r p)) f.closed,
       f.idle,
       f.nothing,
@@ -162,19 +156,4 @@ look_accepted s r f =
       running_not_ended (status s r) f.running,
       running_not_migrating (status s r) f.running,
       f.unread,
-    )
-
-pub issue_accepted : (s : State) (u : User) → is_user u ≡ true → refusal s (Issue u) ≡ none
-unfolding opened_checks
-issue_accepted s u known = simp known
-
-pub grant_accepted : (s : State) (u : User) (r : Rank) (n : ℕ) → GrantFits s u r n → refusal s (Grant u r n) ≡ none
-unfolding opened_checks
-grant_accepted s u r n f =
-    simp (
-      lt-ltb _ _ f.in_range,
-      lt-ltb _ _ f.known,
-      ne_eqb u.0 0 (λ e. omega (arith, f.some)),
-      le-leb _ _ f.byte,
-      f.by_zero,
     )

@@ -4,7 +4,6 @@ use Rattle.std.specs.Prelude.{◌≡◌, refl, Bool, true, false, not, ◌&&◌,
 use Rattle.std.proofs.Common.{sym, ap, ◌∙◌}
 use Rattle.std.proofs.Math.Option.{none}
 use Rattle.std.proofs.lemmas.List.{length-map}
-use Rattle.access.specs.Laws.Access.{zero_holds}
 use Rattle.base.specs.Laws.Lists.{select_map}
 use Rattle.base.specs.Laws.Tests.{both, not_both}
 use Rattle.base.specs.Lists.{tally}
@@ -45,7 +44,7 @@ use Rattle.protocol.specs.Laws.View.{side, pair_fits}
 use Rattle.protocol.specs.Messages.{sent_between}
 use Rattle.broker.specs.Names.{is_started, is_running, is_migrating, is_live, is_ended, is_closed, is_clear}
 use Rattle.protocol.specs.Sound.{sound}
-use Rattle.broker.specs.State.{State, status, request, connection, drawn_on, messages, issuer}
+use Rattle.broker.specs.State.{State, status, request, connection, drawn_on, messages}
 use Rattle.broker.specs.declared.link.Connection.{Connection}
 use Rattle.broker.specs.declared.link.Connection.TheVariants.{Open}
 use Rattle.broker.specs.declared.link.Link.{Link}
@@ -167,7 +166,6 @@ module _ (s x : State) (same : core x ≡ core s) (c : AllQuiet x) where
         one = one_alike s x (same_standings same) c r f.one;
         host = f.host;
         running = running_alike s x (same_standings same) c r hr f.running;
-        right = zero_holds x.access (issuer x) r c.by_zero;
         idle = rw (c.requests r hr);
         room = rw (drawn_alike s x same h) f.room;
       })
@@ -181,12 +179,11 @@ module _ (s x : State) (same : core x ≡ core s) (c : AllQuiet x) where
         one = one_alike s x (same_standings same) c r f.one;
         idle = rw (c.requests r hr);
         running = running_alike s x (same_standings same) c r hr f.running;
-        right = zero_holds x.access (issuer x) r c.by_zero;
         closed = λ t ht. ap (λ (k : Link). is_closed k.connection) (c.links r t hr ht);
         nothing = rw (tally_alike s x same (to r) (λ m. refl)) f.nothing;
       })
 
--- Where a rank migrates and nothing is awaited, its landing is accepted when user 0 issues it.
+-- Where a rank migrates and nothing is awaited, its landing is accepted.
 pub land_after : (x : State) (r : Rank) → r.0 < ranks → Moving x r → refusal x (Land r) ≡ none
 land_after x r hr c =
     let migrates : is_migrating (status x r) ≡ true = c.migrating r hr ∙ rw (same_rank_self r) in
@@ -194,7 +191,6 @@ land_after x r hr c =
     (record {
       one = record { in_range = hr; started = started_of_migrating (status x r) migrates };
       migrating = migrates;
-      right = zero_holds x.access (issuer x) r c.by_zero;
       clear = λ t ht. ap (λ (k : Link). is_clear k.backlog) (c.links r t hr ht);
     })
 

@@ -1,7 +1,6 @@
--- The cases of a change: a value that a test chooses, a value that differs at one rank, the states that a route and a drain choose
--- between, and whether a record names a user. Assumes nothing.
-use Rattle.std.specs.Prelude.{◌≡◌, refl, false, cond, [], ◌∷◌, ℕ}
-use Rattle.access.specs.declared.User.{User}
+-- The cases of a change: a value that a test chooses, a value that differs at one rank, and the states that a route and a drain
+-- choose between. Assumes nothing.
+use Rattle.std.specs.Prelude.{◌≡◌, false, cond}
 use Rattle.base.specs.Laws.Tests.{chosen}
 use Rattle.transit.specs.Message.{is_same_rank}
 use Rattle.transit.specs.Unread.{first_sent, relabel_first}
@@ -9,25 +8,6 @@ use Rattle.transit.specs.declared.Found.{Found}
 use Rattle.transit.specs.declared.Found.TheVariants.{First, Nothing}
 use Rattle.transit.specs.declared.Place.TheVariants.{SourceList}
 use Rattle.transit.specs.declared.Rank.{Rank}
-use Rattle.record.specs.Kind
-use Rattle.record.specs.Parts.{is}
-use Rattle.record.specs.declared.Record.{Record}
-use Rattle.record.specs.declared.Record.TheVariants.{
-  Start,
-  Call,
-  Route,
-  Send,
-  Take,
-  Move,
-  Heed,
-  Drain,
-  Land,
-  Part,
-  End,
-  Look,
-  Issue,
-  Grant,
-}
 use Rattle.protocol.specs.Connect.{route, route_to_ended, route_there, route_on}
 use Rattle.protocol.specs.Laws.State.{same_rank_eq}
 use Rattle.protocol.specs.Done.{Done}
@@ -60,25 +40,3 @@ drain_cases P r p s some none = at (first_sent (on_source_channel p r) s.unread)
     at : (x : Found) → P (drain_found r p s x).state
     at (First m) = some
     at Nothing = none
-
--- of a record: one that names no user, one that says who issues, and one that gives or withdraws a right
-pub by_users :
-    (P : Record → Type 0) →
-    ((x : Record) → is (Kind.issue ∷ Kind.grant ∷ []) x ≡ false → P x) →
-    ((u : User) → P (Issue u)) →
-    ((u : User) (r : Rank) (n : ℕ) → P (Grant u r n)) →
-    (x : Record) → P x
-by_users P other issues grants (Start r h) = other (Start r h) refl
-by_users P other issues grants (Call a b) = other (Call a b) refl
-by_users P other issues grants (Route a b) = other (Route a b) refl
-by_users P other issues grants (Send a b v) = other (Send a b v) refl
-by_users P other issues grants (Take b a) = other (Take b a) refl
-by_users P other issues grants (Move r h) = other (Move r h) refl
-by_users P other issues grants (Heed b r) = other (Heed b r) refl
-by_users P other issues grants (Drain r p) = other (Drain r p) refl
-by_users P other issues grants (Land r) = other (Land r) refl
-by_users P other issues grants (Part a b) = other (Part a b) refl
-by_users P other issues grants (End r) = other (End r) refl
-by_users P other issues grants (Look r) = other (Look r) refl
-by_users P other issues grants (Issue u) = issues u
-by_users P other issues grants (Grant u r n) = grants u r n

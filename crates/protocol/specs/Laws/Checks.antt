@@ -1,6 +1,6 @@
 -- The checks: where none applies, the row of each refusal is false; and a refusal is given exactly where its row is the first that
 -- applies. A row is named by its refusal and not by its place in the table. Assumes nothing.
-use Rattle.std.specs.Prelude.{◌≡◌, refl, Bool, true, false, cond, List, [], ◌∷◌, ◌++◌, map, ℕ, eqb}
+use Rattle.std.specs.Prelude.{◌≡◌, refl, Bool, true, false, cond, List, [], ◌∷◌, ◌++◌, ℕ, eqb}
 use Rattle.std.proofs.Common.{ap, arith}
 use Rattle.std.proofs.Math.Option.{none, some}
 use Rattle.answer.specs.Answer.{refusal_number}
@@ -80,10 +80,3 @@ first_is_given cs s r n f = rw f.stands (go f.before f.passed)
     go (c ∷ cs) h =
         let off = head_false c cs s r h in
         rw off (go cs (rw off at h))
-
--- The rows in the order in which they decide. Paper 02, change 5: 29 and 30 come "after 6", and 31 "after 11"; change 4: 28 "after 25".
-pub rows_in_order :
-    map (λ (c : Check). refusal_number c.refusal) checks ≡
-    4 ∷ 5 ∷ 6 ∷ 29 ∷ 30 ∷ 7 ∷ 8 ∷ 9 ∷ 10 ∷ 11 ∷ 31 ∷ 12 ∷ 13 ∷ 14 ∷ 15 ∷ 16 ∷ 17 ∷ 19 ∷ 20 ∷ 21 ∷ 22 ∷ 23 ∷ 24 ∷ 25 ∷ 28 ∷ []
-unfolding checks
-rows_in_order = refl

@@ -24,22 +24,7 @@ use Rattle.broker.specs.State.{State, status, messages}
 use Rattle.broker.specs.declared.process.Status.{Status}
 use Rattle.broker.specs.declared.process.Status.TheVariants.{Unstarted, Running, Migrating, Ended}
 use Rattle.record.specs.declared.Record.{Record}
-use Rattle.record.specs.declared.Record.TheVariants.{
-  Start,
-  Call,
-  Route,
-  Send,
-  Take,
-  Move,
-  Heed,
-  Drain,
-  Land,
-  Part,
-  End,
-  Look,
-  Issue,
-  Grant,
-}
+use Rattle.record.specs.declared.Record.TheVariants.{Start, Call, Route, Send, Take, Move, Heed, Drain, Land, Part, End, Look}
 
 -- a standing with its migration read as done
 abbrev pub settled : Status → Status
@@ -85,7 +70,7 @@ arrives r h c =
       sent = c.sent;
     }
 
--- what an accepted record does to the core: a move does what a start does, and nine kinds do nothing
+-- what an accepted record does to the core: a move does what a start does, and seven kinds do nothing
 abbrev pub core_step : Record → Core → Core
 core_step (Start r h) c = arrives r h c
 core_step (Call a b) c = c
@@ -100,8 +85,6 @@ core_step (Land r) c = c
 core_step (Part a b) c = c
 core_step (End r) c = with_standing r (Ended (endpoint (get_or c.statuses r.0 Unstarted))) c
 core_step (Look r) c = c
-core_step (Issue u) c = c
-core_step (Grant u r n) c = c
 
 -- a number of each of a pair's letters, in order; their values, and their running numbers
 abbrev pub each_between : (Message → ℕ) → Rank → Rank → Core → List ℕ

@@ -41,7 +41,6 @@ use Rattle.protocol.specs.Laws.Standings.{standings_with_status, standings_with_
 use Rattle.protocol.specs.Life.{start, end}
 use Rattle.protocol.specs.Messages.{place_over, send, take, look, after_take}
 use Rattle.protocol.specs.Migrate.{move, heed, land}
-use Rattle.protocol.specs.Rights.{issue, grant}
 use Rattle.broker.specs.Names.{endpoint, is_migrating}
 use Rattle.protocol.specs.Sound.{sound}
 use Rattle.broker.specs.State.{State, status, connection, messages, with_request}
@@ -50,22 +49,7 @@ use Rattle.broker.specs.declared.process.Request.{Request}
 use Rattle.broker.specs.declared.process.Status.{Status}
 use Rattle.broker.specs.declared.process.Status.TheVariants.{Unstarted, Running, Migrating, Ended}
 use Rattle.record.specs.declared.Record.{Record}
-use Rattle.record.specs.declared.Record.TheVariants.{
-  Start,
-  Call,
-  Route,
-  Send,
-  Take,
-  Move,
-  Heed,
-  Drain,
-  Land,
-  Part,
-  End,
-  Look,
-  Issue,
-  Grant,
-}
+use Rattle.record.specs.declared.Record.TheVariants.{Start, Call, Route, Send, Take, Move, Heed, Drain, Land, Part, End, Look}
 
 -- The core does not see calls, lines and tables.
 core_with_request : (s : State) (r : Rank) (q : Request) → core (with_request r q s) ≡ core s
@@ -135,7 +119,7 @@ module _ (s : State) (b a : Rank) (h : sound s ≡ true) (f : TakeFits s b a) wh
 
 pub core_step_lem : (s : State) (r : Record) → sound s ≡ true → refusal s r ≡ none
     → core (apply r s).state ≡ core_step r (core s)
-unfolding apply look start send move heed land part end issue grant
+unfolding apply look start send move heed land part end
 core_step_lem s (Start r h) sd p = rw map_set
 core_step_lem s (Call a b) sd p = call_unseen core core_with_request a b s
 core_step_lem s (Route a b) sd p = route_unseen core core_with_request (λ t ls. refl) (λ t vs. refl) a b s
@@ -151,5 +135,3 @@ core_step_lem s (Land r) sd p =
 core_step_lem s (Part a b) sd p = rw (relabels, relabels, each_to_letters, each_to_letters)
 core_step_lem s (End r) sd p = rw (map_set, core_status s r, endpoint_settled)
 core_step_lem s (Look r) sd p = refl
-core_step_lem s (Issue u) sd p = refl
-core_step_lem s (Grant u r n) sd p = refl

@@ -1,4 +1,4 @@
--- Every accepted record keeps a sound state sound: the shape, the names, the pairs, the messages and the rights, each in a file of its own.
+-- Every accepted record keeps a sound state sound: the shape, the names, the pairs and the messages, each in a file of its own.
 -- Assumes nothing.
 pub mod Effects
 pub mod Names
@@ -8,7 +8,6 @@ pub mod Views
 use Rattle.std.specs.Prelude.{◌≡◌, true}
 use Rattle.std.proofs.Math.Option.{none}
 use Rattle.protocol.specs.Checks.{refusal}
-use Rattle.protocol.specs.Laws.Access.{rights_kept}
 use Rattle.protocol.specs.Laws.Fit.{ends_from_fits, unheeded_from_fits, places_from_fits}
 use Rattle.protocol.specs.Laws.Kept.Names.{names_kept}
 use Rattle.protocol.specs.Laws.Kept.Shape.{shape_kept}
@@ -39,7 +38,6 @@ facts_kept s r f p =
             unheeded_places_lem = unheeded_from_fits after (messages after) views.placed;
             places_fit_lem = places_from_fits after (messages after) views.placed;
           };
-      rights = rights_kept s r f.rights p;
     }
 
 -- "Every step keeps a sound state sound."

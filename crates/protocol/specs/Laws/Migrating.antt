@@ -20,7 +20,6 @@ use Rattle.protocol.specs.Life.{start, end}
 use Rattle.broker.specs.State.{next_vmid, State, idle, status, with_status}
 use Rattle.protocol.specs.Messages.{send, take, look}
 use Rattle.protocol.specs.Migrate.{move, heed, land}
-use Rattle.protocol.specs.Rights.{issue, grant}
 use Rattle.broker.specs.Names.{endpoint, is_started, is_migrating}
 use Rattle.protocol.specs.Sound.{sound}
 use Rattle.protocol.specs.Step.{apply}
@@ -28,22 +27,7 @@ use Rattle.broker.specs.declared.process.Process.{Process}
 use Rattle.broker.specs.declared.process.Status.{Status}
 use Rattle.broker.specs.declared.process.Status.TheVariants.{Running, Migrating, Ended}
 use Rattle.record.specs.declared.Record.{Record}
-use Rattle.record.specs.declared.Record.TheVariants.{
-  Start,
-  Call,
-  Route,
-  Send,
-  Take,
-  Move,
-  Heed,
-  Drain,
-  Land,
-  Part,
-  End,
-  Look,
-  Issue,
-  Grant,
-}
+use Rattle.record.specs.declared.Record.TheVariants.{Start, Call, Route, Send, Take, Move, Heed, Drain, Land, Part, End, Look}
 
 -- whether a move of r is open after an accepted record, by whether one was open before
 abbrev pub open_after : Rank → Bool → Record → Bool
@@ -67,7 +51,7 @@ migrates_still s p t e r = store_unseen (λ (q : Process). is_migrating q.status
 
 pub migrating_step : (s : State) (x : Record) (r : Rank) → sound s ≡ true → refusal s x ≡ none
     → is_migrating (status (apply x s).state r) ≡ open_after r (is_migrating (status s r)) x
-unfolding apply start send take move heed land part end look issue grant
+unfolding apply start send take move heed land part end look
 migrating_step s (Start p h) r sd k =
     let f = start_fits s p h k in
     migrates_still s p (Running (next_vmid s h)) (sym (unstarted_not_migrating (status s p) f.unstarted)) r
@@ -92,5 +76,3 @@ migrating_step s (End p) r sd k =
     let f = end_fits s p k in
     migrates_still s p (Ended (endpoint (status s p))) (sym (running_not_migrating (status s p) f.running)) r
 migrating_step s (Look p) r sd k = refl
-migrating_step s (Issue u) r sd k = refl
-migrating_step s (Grant u q n) r sd k = refl

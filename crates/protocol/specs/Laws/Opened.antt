@@ -7,7 +7,6 @@ use Rattle.protocol.specs.Connect
 use Rattle.protocol.specs.Life
 use Rattle.protocol.specs.Messages
 use Rattle.protocol.specs.Migrate
-use Rattle.protocol.specs.Rights
 use Rattle.broker.specs.Ranks.{every_rank, every_pair, count_ranks, each_rank}
 use Rattle.record.specs.Record.{decode, record_of}
 use Rattle.protocol.specs.Sound
@@ -18,9 +17,8 @@ use Rattle.record.specs.declared.Record.{Record}
 
 -- the refusal of a record; where this is opened, every row of the table of checks is open
 unfoldable pub opened_checks : State → Record → Option Refusal
-unfolding Checks.refusal Checks.checks Checks.rank_range Checks.host_range Checks.rank_twice Checks.user_range Checks.right_range
-    Checks.not_started Checks.already_started Checks.has_ended Checks.first_migrating Checks.not_migrating Checks.no_right
-    Checks.connected Checks.request_open
+unfolding Checks.refusal Checks.checks Checks.rank_range Checks.host_range Checks.rank_twice Checks.not_started
+    Checks.already_started Checks.has_ended Checks.first_migrating Checks.not_migrating Checks.connected Checks.request_open
     Checks.no_request Checks.not_connected Checks.peer_migrating Checks.no_notice Checks.backlog_left
     Checks.no_backlog Checks.nothing_to_drain Checks.nothing_unread Checks.unread_left Checks.full Checks.numbers_spent
     Checks.sequence_spent
@@ -41,14 +39,9 @@ unfolding Sound.messages_sound Sound.few_unread Sound.messages_named Sound.ends_
     Sound.places_rise Sound.numbers_rise every_pair
 opened_messages s = Sound.messages_sound s
 
--- and on who issues the records and the rights
-unfoldable pub opened_access : State → Bool
-unfolding Sound.access_sound Sound.issuer_known Sound.rights_whole
-opened_access s = Sound.access_sound s
-
 -- whether a state is sound; where this is opened, every clause of soundness is open
 unfoldable pub opened_sound : State → Bool
-unfolding Sound.sound Sound.shaped opened_names opened_pairs opened_messages opened_access
+unfolding Sound.sound Sound.shaped opened_names opened_pairs opened_messages
 opened_sound s = Sound.sound s
 
 -- a step of a sound state; where this is opened, all that it computes with is open, and so the lower part's operations: for what is
@@ -56,5 +49,5 @@ opened_sound s = Sound.sound s
 unfoldable pub opened : State → List ℕ → ℕ → Outcome
 unfolding step_sound settle apply decode record_of opened_checks opened_unread Life.announced Life.start Life.end Connect.call
     Connect.route Connect.part Messages.send Messages.take Messages.look Migrate.leave_all Migrate.move Migrate.heed
-    Migrate.drain Migrate.land Rights.issue Rights.grant every_rank every_pair count_ranks each_rank
+    Migrate.drain Migrate.land every_rank every_pair count_ranks each_rank
 opened s log at = step_sound s log at

@@ -4,11 +4,10 @@
 use Rattle.std.specs.Prelude.{◌≡◌, Bool, true, false, cond, ◌&&◌, ℕ, ◌<◌, length}
 use Rattle.std.proofs.Math.Path.{refl}
 use Rattle.std.proofs.Common.{ap, ◌∙◌, eq-eqb, length-set}
-use Rattle.access.specs.Access.{is_user_zero}
 use Rattle.base.specs.Laws.Tests.{by_test, same_either}
 use Rattle.transit.specs.Message.{is_same_rank, rank, ranks, cells}
 use Rattle.transit.specs.declared.Rank.{Rank}
-use Rattle.broker.specs.State.{connect, next_vmid, State, link_at, status, request, location, issuer, with_status, with_request, with_links}
+use Rattle.broker.specs.State.{connect, next_vmid, State, link_at, status, request, location, with_status, with_request, with_links}
 use Rattle.protocol.specs.Connect.{connect_both, call, route, part, route_on}
 use Rattle.base.specs.Laws.Stores.{long_set}
 use Rattle.protocol.specs.Laws.State.{same_rank_self, link_set, status_with, request_with_status, request_with, status_with_request}
@@ -29,10 +28,9 @@ use Rattle.broker.specs.declared.process.Status.{Status}
 use Rattle.broker.specs.declared.process.Status.TheVariants.{Running, Migrating, Ended}
 use Rattle.broker.specs.declared.process.Vmid.{Vmid}
 
--- no backlog, just these ranks migrating, these calls and these lines, and user 0 issues the records
+-- no backlog, and just these ranks migrating, these calls and these lines
 pub record Calm (x : State) (moves : Rank → Bool) (asks : Rank → Request) (line : Rank → Rank → Connection) : Type 0 where
   pub processes_long : length x.processes ≡ ranks
-  pub by_zero : is_user_zero (issuer x) ≡ true
   pub links_long : length x.links ≡ cells
   pub migrating : (r : Rank) → r.0 < ranks → is_migrating (status x r) ≡ moves r
   pub requests : (r : Rank) → r.0 < ranks → request x r ≡ asks r
@@ -60,7 +58,6 @@ pub calm_as : {x : State} {m m' : Rank → Bool} {q q' : Rank → Request} {l l'
 calm_as c em eq el =
     record {
       processes_long = c.processes_long;
-      by_zero = c.by_zero;
       links_long = c.links_long;
       migrating = λ r h. c.migrating r h ∙ em r;
       requests = λ r h. c.requests r h ∙ eq r;
@@ -69,12 +66,11 @@ calm_as c em eq el =
 
 -- The changes of which the kinds are made, each as a change of what is named.
 module _ {x : State} {m : Rank → Bool} {q : Rank → Request} {l : Rank → Rank → Connection} (c : Calm x m q l) where
-  -- All but the processes, the links and who issues the records may change.
-  calm_kept : (y : State) → y.processes ≡ x.processes → y.links ≡ x.links → y.access ≡ x.access → Calm y m q l
-  calm_kept y ep el ea =
+  -- All but the processes and the links may change.
+  calm_kept : (y : State) → y.processes ≡ x.processes → y.links ≡ x.links → Calm y m q l
+  calm_kept y ep el =
       record {
         processes_long = rw ep c.processes_long;
-        by_zero = rw ea c.by_zero;
         links_long = rw el c.links_long;
         migrating = λ r hr. rw ep (c.migrating r hr);
         requests = λ r hr. rw ep (c.requests r hr);
@@ -86,7 +82,6 @@ module _ {x : State} {m : Rank → Bool} {q : Rank → Request} {l : Rank → Ra
   calm_status r t hr =
       record {
         processes_long = long_set ranks x.processes r.0 _ c.processes_long;
-        by_zero = c.by_zero;
         links_long = c.links_long;
         links = c.links;
         migrating =
@@ -99,7 +94,6 @@ module _ {x : State} {m : Rank → Bool} {q : Rank → Request} {l : Rank → Ra
   calm_request r t hr =
       record {
         processes_long = long_set ranks x.processes r.0 _ c.processes_long;
-        by_zero = c.by_zero;
         links_long = c.links_long;
         links = c.links;
         migrating = λ p hp. ap is_migrating (status_with_request x r p t) ∙ c.migrating p hp;
@@ -113,7 +107,6 @@ module _ {x : State} {m : Rank → Bool} {q : Rank → Request} {l : Rank → Ra
   calm_connect r p t hr hp =
       record {
         processes_long = c.processes_long;
-        by_zero = c.by_zero;
         links_long = simp length-set c.links_long;
         migrating = c.migrating;
         requests = c.requests;
@@ -144,7 +137,7 @@ pub record Quiet (x : State) : Type 0 where
 pub start_calm : (x : State) (r : Rank) (h : ℕ) → AllQuiet x → r.0 < ranks → AllQuiet (start r h x).state
 unfolding start
 start_calm x r h c hr =
-    calm_as (calm_kept (calm_status c r (Running (next_vmid x h)) hr) (start r h x).state refl refl refl)
+    calm_as (calm_kept (calm_status c r (Running (next_vmid x h)) hr) (start r h x).state refl refl)
     (λ p. same_either (is_same_rank p r) false) (λ p. refl) (λ p q. refl)
 
 pub end_calm : (x : State) (r : Rank) → AllQuiet x → r.0 < ranks → AllQuiet (end r x).state
@@ -154,19 +147,19 @@ end_calm x r c hr =
 
 pub take_calm : (x : State) (b a : Rank) → AllQuiet x → AllQuiet (take b a x).state
 unfolding take
-take_calm x b a c = calm_kept c (take b a x).state refl refl refl
+take_calm x b a c = calm_kept c (take b a x).state refl refl
 
 -- A move from a quiet state awaits nothing, and its landing leaves all quiet.
 pub move_calm : (x : State) (r : Rank) (h : ℕ) → AllQuiet x → r.0 < ranks → Moving (move r h x).state r
 unfolding move leave_all each_rank
 move_calm x r h c hr =
     calm_kept (calm_status c r (Migrating (endpoint (status x r)) (next_vmid x h)) hr) (move r h x).state refl
-    (each_below_fixed ranks (λ k. leave r (rank k)) x.links (λ k hk. rw (c.links r (rank k) hr hk))) refl
+    (each_below_fixed ranks (λ k. leave r (rank k)) x.links (λ k hk. rw (c.links r (rank k) hr hk)))
 
 pub land_calm : (x : State) (r : Rank) → Moving x r → r.0 < ranks → AllQuiet (land r x).state
 unfolding land
 land_calm x r c hr =
-    calm_as (calm_kept (calm_status c r (Running (endpoint (status x r))) hr) (land r x).state refl refl refl)
+    calm_as (calm_kept (calm_status c r (Running (endpoint (status x r))) hr) (land r x).state refl refl)
     (λ p. by_test (is_same_rank p r) (λ e. rw e) (λ e. rw e)) (λ p. refl) (λ p q. refl)
 
 -- A call from a quiet state is the only one.
@@ -190,7 +183,7 @@ module _ (x : State) (a b : Rank) (v : Vmid) (c : Calling x a b v) (ha : a.0 < r
     route_corrects e =
         rw (runs, posted, e)
         (calm_as
-        (calm_kept (calm_request c a (Posted b (endpoint (status x b))) ha) (route_on a b (endpoint (status x b)) x).state refl refl refl)
+        (calm_kept (calm_request c a (Posted b (endpoint (status x b))) ha) (route_on a b (endpoint (status x b)) x).state refl refl)
         (λ p. refl) (λ p. by_test (is_same_rank p a) (λ f. rw f) (λ f. rw f)) (λ p q. refl))
 
     pub route_joins : same_vmid v (endpoint (status x b)) ≡ true → Joined (route a b x).state a b
@@ -205,12 +198,12 @@ module _ (x : State) (a b : Rank) (v : Vmid) (c : Calling x a b v) (ha : a.0 < r
 pub send_calm : (x : State) (a b : Rank) (v : ℕ) {l : Rank → Rank → Connection} → Calm x nobody uncalled l
     → Calm (send a b v x).state nobody uncalled l
 unfolding send
-send_calm x a b v c = calm_kept c (send a b v x).state refl refl refl
+send_calm x a b v c = calm_kept c (send a b v x).state refl refl
 
 pub part_calm : (x : State) (a b : Rank) → Joined x a b → a.0 < ranks → b.0 < ranks → AllQuiet (part a b x).state
 unfolding part
 part_calm x a b c ha hb =
-    calm_as (calm_kept (calm_connect (calm_connect c a b Closed ha hb) b a Closed hb ha) (part a b x).state refl refl refl)
+    calm_as (calm_kept (calm_connect (calm_connect c a b Closed ha hb) b a Closed hb ha) (part a b x).state refl refl)
     (λ p. refl) (λ p. refl)
     (λ p q.
     by_test (is_same_rank p b && is_same_rank q a) (λ e. rw e) (λ e. by_test (is_same_rank p a && is_same_rank q b) (λ f. rw (e, f)) (λ f. rw (e, f))))

@@ -19,7 +19,7 @@ use Rattle.protocol.specs.Migrate.{move}
 use Rattle.broker.specs.Names.{hosts, numbers, same_vmid, is_open_request}
 use Rattle.record.specs.Record.{decode}
 use Rattle.protocol.specs.Sound.{sound, is_drawn}
-use Rattle.broker.specs.State.{State, status, request, drawn_on, next_vmid, permitted}
+use Rattle.broker.specs.State.{State, status, request, drawn_on, next_vmid}
 use Rattle.protocol.specs.Step.{apply, step}
 use Rattle.answer.specs.declared.Answer.{Answer}
 use Rattle.answer.specs.declared.Answer.TheVariants.{Accepted, Refused}
@@ -50,9 +50,6 @@ use Rattle.answer.specs.declared.Refusal.TheVariants.{
   Full,
   NumbersSpent,
   SequenceSpent,
-  UserRange,
-  RightRange,
-  NoRight,
 }
 use Rattle.broker.specs.declared.process.Status.TheVariants.{Running}
 use Rattle.broker.specs.declared.process.Vmid.{Vmid}
@@ -86,9 +83,6 @@ no_refusal UnreadLeft = refl
 no_refusal Full = refl
 no_refusal NumbersSpent = refl
 no_refusal SequenceSpent = refl
-no_refusal UserRange = refl
-no_refusal RightRange = refl
-no_refusal NoRight = refl
 
 pub never_eighteen : (answer : Answer) → NeverEighteen answer
 unfolding NeverEighteen
@@ -115,8 +109,8 @@ module _ (s : State) (r : Rank) (v : Vmid) (ok : sound s ≡ true) (in_range : r
   pub restart_apart : same_vmid v (next_vmid s v.0) ≡ false
   restart_apart = rw (ne_eqb v.1 (drawn_on s v.0 + 1) (λ e. omega (arith, restart_draws))) (and-false (eqb v.0 v.0))
 
-  -- where the issuer has the right over it, with no call open, and with a number left on its host
-  module _ (right : permitted s r ≡ true) (idle : is_open_request (request s r) ≡ false) (room : drawn_on s v.0 < numbers) where
+  -- with no call open, and with a number left on its host
+  module _ (idle : is_open_request (request s r) ≡ false) (room : drawn_on s v.0 < numbers) where
     -- "A move to the rank's present host is accepted"
     pub restart_accepted : refusal s (Move r v.0) ≡ none
     restart_accepted =
@@ -125,7 +119,6 @@ module _ (s : State) (r : Rank) (v : Vmid) (ok : sound s ≡ true) (in_range : r
           one = record { in_range = in_range; started = rw runs };
           host = ltb-true v.0 hosts (both_left (ltb v.0 hosts) _ (both_left (ltb v.0 hosts && ltb 0 v.1) _ its_own));
           running = rw runs;
-          right = right;
           idle = idle;
           room = room;
         })

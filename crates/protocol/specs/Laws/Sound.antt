@@ -3,7 +3,6 @@
 use Rattle.std.specs.Prelude.{◌≡◌, Bool, true, not, cond, ◌&&◌, ◌||◌, List, [], ◌∷◌, map, ℕ, ◌<◌, ◌≤◌, eqb, leb, length}
 use Rattle.std.specs.Bool.{beq}
 use Rattle.std.proofs.Common.{eqb-true, eq-eqb, leb-true, le-leb}
-use Rattle.access.specs.Access.{is_user, rights}
 use Rattle.base.specs.Laws.Tests.{both, both_left, both_right, chain_at}
 use Rattle.base.specs.Lists.{select, every, never_falls, rises_within}
 use Rattle.transit.specs.Message.{between, at, place_number, is_same_rank, is_rank, ranks, cells}
@@ -34,7 +33,7 @@ use Rattle.broker.specs.Names.{
 }
 use Rattle.protocol.specs.Sound
 use Rattle.protocol.specs.Sound.{sound, is_drawn, of_call, none_shared, distinct}
-use Rattle.broker.specs.State.{State, status, request, location, connection, backlog, drawn_on, messages, issuer}
+use Rattle.broker.specs.State.{State, status, request, location, connection, backlog, drawn_on, messages}
 
 -- a test that passes at each rank, and at each rank and each rank
 abbrev pub AtRanks : (Rank → Bool) → Type 0
@@ -96,16 +95,11 @@ pub record Mail (s : State) : Type 0 where
   pub numbers_rise_lem :
       AtPairs (λ a b. rises_within 0 (sent_between a b s) (map (λ m. m.sequence) (select (between a b) (messages s))))
 
-pub record Rights (s : State) : Type 0 where
-  pub issuer_known_lem : is_user (issuer s) ≡ true
-  pub rights_long : length s.access.rights ≡ rights
-
 pub record Facts (s : State) : Type 0 where
   pub shape : Shape s
   pub names : Names s
   pub pairs : Pairs s
   pub mail : Mail s
-  pub rights : Rights s
 
 -- the clauses of each group, after its first
 abbrev longs : State → List Bool
@@ -216,36 +210,14 @@ of_mail s f =
     both (both (both (both (both (both few f.named) f.ends_fit_lem) f.unheeded_places_lem) f.places_fit_lem)
     (every_pair_of _ f.places_rise_lem)) (every_pair_of _ f.numbers_rise_lem)
 
-rights_of : (s : State) → Sound.access_sound s ≡ true → Rights s
-unfolding Sound.access_sound Sound.issuer_known Sound.rights_whole
-rights_of s h =
-    let known = is_user (issuer s) in
-    let whole = eqb (length s.access.rights) rights in
-    record {
-      issuer_known_lem = both_left known whole h;
-      rights_long = eqb-true (length s.access.rights) rights (both_right known whole h);
-    }
-
-of_rights : (s : State) → Rights s → Sound.access_sound s ≡ true
-unfolding Sound.access_sound Sound.issuer_known Sound.rights_whole
-of_rights s f = both f.issuer_known_lem (eq-eqb (length s.access.rights) rights f.rights_long)
-
 -- what soundness says
 pub facts : (s : State) → sound s ≡ true → Facts s
 unfolding Sound.sound
 facts s h =
-    let group = chain_at (Sound.shaped s) (Sound.names_sound s ∷ Sound.pairs_sound s ∷ Sound.messages_sound s ∷ Sound.access_sound s ∷ []) h in
-    record {
-      shape = shape_of s (group 0);
-      names = names_of s (group 1);
-      pairs = pairs_of s (group 2);
-      mail = mail_of s (group 3);
-      rights = rights_of s (group 4);
-    }
+    let group = chain_at (Sound.shaped s) (Sound.names_sound s ∷ Sound.pairs_sound s ∷ Sound.messages_sound s ∷ []) h in
+    record { shape = shape_of s (group 0); names = names_of s (group 1); pairs = pairs_of s (group 2); mail = mail_of s (group 3) }
 
 -- what makes soundness
 pub of_facts : (s : State) → Facts s → sound s ≡ true
 unfolding Sound.sound
-of_facts s f =
-    both (both (both (both (of_shape s f.shape) (of_names s f.names)) (of_pairs s f.pairs)) (of_mail s f.mail))
-    (of_rights s f.rights)
+of_facts s f = both (both (both (of_shape s f.shape) (of_names s f.names)) (of_pairs s f.pairs)) (of_mail s f.mail)

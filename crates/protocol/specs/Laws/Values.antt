@@ -23,6 +23,4 @@ values_hold =
       of_part = by_computing Values.part refl;
       of_end = by_computing Values.end refl;
       of_look = by_computing Values.look refl;
-      of_issue = by_computing Values.issue refl;
-      of_grant = by_computing Values.grant refl;
     }

@@ -40,7 +40,7 @@ restart_is_like_a_move_elsewhere = like_any_other started (rank 0) 5 3 (omega ar
 
 pub restart_is_accepted : refusal started (Move (rank 0) 5) ≡ none
 unfolding start announced
-restart_is_accepted = restart_accepted started (rank 0) (vmid 5 1) is_sound (omega arith) runs refl refl has_room
+restart_is_accepted = restart_accepted started (rank 0) (vmid 5 1) is_sound (omega arith) runs refl has_room
 
 pub number_is_greater : 1 < 2
 unfolding start announced
@@ -53,4 +53,4 @@ vmids_differ = restart_apart started (rank 0) (vmid 5 1) is_sound (omega arith) 
 pub restart_is_carried_out : step started (Kind.move ∷ 0 ∷ 5 ∷ []) 0 ≡ carried (move (rank 0) 5 started) 3
 unfolding start announced decode record_of
 restart_is_carried_out =
-    restart_carried_out started (rank 0) (vmid 5 1) is_sound (omega arith) runs refl refl has_room (Kind.move ∷ 0 ∷ 5 ∷ []) 0 3 refl
+    restart_carried_out started (rank 0) (vmid 5 1) is_sound (omega arith) runs refl has_room (Kind.move ∷ 0 ∷ 5 ∷ []) 0 3 refl

@@ -1,11 +1,12 @@
 -- A pair that has all but spent its running numbers: a state handed in, and the steps from it. Paper 02, change 4: "28 for a send when the
 -- pair has already sent 4,294,967,295, tested after 25." Computed from the definitions. Assumes nothing.
-use Rattle.std.specs.Prelude.{◌≡◌, refl, Bool, true, List, [], ◌∷◌, ℕ, eqb, set}
+use Rattle.std.specs.Prelude.{◌≡◌, refl, Bool, true, List, [], ◌∷◌, map, ℕ, eqb, set}
 use Rattle.std.proofs.Common.{◌∙◌}
 use Rattle.std.proofs.Math.Option.{none, some}
 use Rattle.transit.specs.Message.{rank, pair_of}
 use Rattle.transit.specs.Unread.{limit, nothing}
-use Rattle.protocol.specs.Checks.{refusal}
+use Rattle.answer.specs.Answer.{refusal_number}
+use Rattle.protocol.specs.Checks.{Check, checks, refusal}
 use Rattle.protocol.specs.Connect.{connect_both}
 use Rattle.protocol.specs.Edges.{Try, plays, answers, refuses}
 use Rattle.record.specs.Kind
@@ -55,6 +56,13 @@ is_sound = refl
 pub one_more_and_then_28 : plays (λ s log. step s log 0) to_the_last all_sent (having 0 4294967294) ≡ true
 unfolding opened
 one_more_and_then_28 = plays_sound to_the_last all_sent (having 0 4294967294) is_sound ∙ refl
+
+-- The rows of the table in their order: 28 is the last.
+pub rows_in_order :
+    map (λ (c : Check). refusal_number c.refusal) checks ≡
+    4 ∷ 5 ∷ 6 ∷ 7 ∷ 8 ∷ 9 ∷ 10 ∷ 11 ∷ 12 ∷ 13 ∷ 14 ∷ 15 ∷ 16 ∷ 17 ∷ 19 ∷ 20 ∷ 21 ∷ 22 ∷ 23 ∷ 24 ∷ 25 ∷ 28 ∷ []
+unfolding opened_checks
+rows_in_order = refl
 
 -- The same of the checks alone: 28 is given where all are sent, after 24.
 pub last_number_is_given : refusal (having 0 4294967294) (Send (rank 0) (rank 1) 7) ≡ none

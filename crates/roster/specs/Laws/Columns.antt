@@ -1,27 +1,23 @@
 -- The columns of a roster: what two rosters have in common that agree outside of one of them. Assumes nothing.
-use Rattle.std.specs.Prelude.{◌≡◌, refl, Bool, List, ℕ, ◌+◌, ◌<◌, ◌≤◌, get_or, set}
+use Rattle.std.specs.Prelude.{◌≡◌, refl, List, ℕ, ◌+◌, ◌<◌, ◌≤◌, get_or, set}
 use Rattle.std.proofs.Common.{ap, ◌∙◌, arith, get_or-set_other}
-use Rattle.access.specs.Access.{rights}
-use Rattle.access.specs.declared.Access.{Access}
 use Rattle.base.specs.Laws.Stores.{long_set}
 use Rattle.base.specs.Laws.Tabulate.{tabulate_same}
 use Rattle.base.specs.Lists.{tabulate}
 use Rattle.transit.specs.Message.{ranks, cells}
 use Rattle.transit.specs.Unread.{nothing}
 use Rattle.broker.specs.Names.{hosts}
-use Rattle.broker.specs.State.{with_locations, with_links, with_access}
+use Rattle.broker.specs.State.{with_locations, with_links}
 use Rattle.broker.specs.declared.link.Link.{Link}
 use Rattle.broker.specs.declared.process.Process.{Process}
 use Rattle.broker.specs.declared.process.Vmid.{Vmid}
-use Rattle.roster.specs.Loaded.{Outside, with_processes, with_all_drawn, with_rights}
+use Rattle.roster.specs.Loaded.{Outside, with_processes, with_all_drawn}
 use Rattle.roster.specs.Numbers.{vmid_of, link_of, drawn_of}
 use Rattle.roster.specs.Roster.{
   process_in,
   location_in,
   link_in,
   drawn_in,
-  right_in,
-  access_in,
   ranks_of,
   Holds,
   Whole,
@@ -29,8 +25,6 @@ use Rattle.roster.specs.Roster.{
   LOCATIONS,
   LINKS,
   DRAWN,
-  ISSUER,
-  GRANTS,
   roster_length,
 }
 
@@ -61,12 +55,6 @@ module _ {from to : ℕ} {l m : List ℕ} (o : Outside from to l m) where
       tabulate_same ranks (process_in m) (process_in l)
       (λ k b. rw (o.same k (λ p q. omega arith), o.same (REQUESTS + k) (λ p q. omega arith)))
 
-  -- and the issuer with the rights
-  access_kept : to ≤ ISSUER → access_in m ≡ access_in l
-  access_kept before =
-      let given = tabulate_same rights (right_in m) (right_in l) (λ k b. rw (o.same (GRANTS + k) (λ p q. omega arith))) in
-      rw (o.same ISSUER (λ p q. omega arith), given)
-
 -- a roster that agrees outside of a part of the state holds the same state with its own part
 module _ {l m : List ℕ} where
   pub processes_only : {ps : List Process} → Outside 0 LOCATIONS l m → tabulate ranks (process_in m) ≡ ps
@@ -75,8 +63,7 @@ module _ {l m : List ℕ} where
   processes_only o own =
       let locations = column_kept o vmid_of LOCATIONS cells (λ k b p q. omega arith) in
       let links = column_kept o link_of LINKS cells (λ k b p q. omega arith) in
-      let drawn = column_kept o drawn_of DRAWN hosts (λ k b p q. omega arith) in
-      record { long = o.whole; same = rw (own, locations, links, drawn, access_kept o (omega arith)) }
+      record { long = o.whole; same = rw (own, locations, links, column_kept o drawn_of DRAWN hosts (λ k b p q. omega arith)) }
 
   pub locations_only : {ls : List Vmid} → Outside LOCATIONS LINKS l m → tabulate cells (location_in m) ≡ ls
       → Holds m (with_locations ls (ranks_of l))
@@ -84,36 +71,21 @@ module _ {l m : List ℕ} where
   locations_only o own =
       let links = column_kept o link_of LINKS cells (λ k b p q. omega arith) in
       let drawn = column_kept o drawn_of DRAWN hosts (λ k b p q. omega arith) in
-      record { long = o.whole; same = rw (processes_kept o (omega arith), own, links, drawn, access_kept o (omega arith)) }
+      record { long = o.whole; same = rw (processes_kept o (omega arith), own, links, drawn) }
 
   pub links_only : {ks : List Link} → Outside LINKS DRAWN l m → tabulate cells (link_in m) ≡ ks → Holds m (with_links ks (ranks_of l))
   unfolding ranks_of
   links_only o own =
       let locations = column_kept o vmid_of LOCATIONS cells (λ k b p q. omega arith) in
       let drawn = column_kept o drawn_of DRAWN hosts (λ k b p q. omega arith) in
-      record { long = o.whole; same = rw (processes_kept o (omega arith), locations, own, drawn, access_kept o (omega arith)) }
+      record { long = o.whole; same = rw (processes_kept o (omega arith), locations, own, drawn) }
 
-  pub drawn_only : {ns : List ℕ} → Outside DRAWN ISSUER l m → tabulate hosts (drawn_in m) ≡ ns → Holds m (with_all_drawn ns (ranks_of l))
+  pub drawn_only : {ns : List ℕ} → Outside DRAWN roster_length l m → tabulate hosts (drawn_in m) ≡ ns → Holds m (with_all_drawn ns (ranks_of l))
   unfolding ranks_of
   drawn_only o own =
       let locations = column_kept o vmid_of LOCATIONS cells (λ k b p q. omega arith) in
       let links = column_kept o link_of LINKS cells (λ k b p q. omega arith) in
-      record { long = o.whole; same = rw (processes_kept o (omega arith), locations, links, own, access_kept o (omega arith)) }
-
-  pub access_only : {x : Access} → Outside ISSUER roster_length l m → access_in m ≡ x → Holds m (with_access x (ranks_of l))
-  unfolding ranks_of
-  access_only o own =
-      let locations = column_kept o vmid_of LOCATIONS cells (λ k b p q. omega arith) in
-      let links = column_kept o link_of LINKS cells (λ k b p q. omega arith) in
-      let drawn = column_kept o drawn_of DRAWN hosts (λ k b p q. omega arith) in
-      record { long = o.whole; same = rw (processes_kept o (omega arith), locations, links, drawn, own) }
-
-  pub rights_only : {given : List Bool} → Outside GRANTS roster_length l m → tabulate rights (right_in m) ≡ given
-      → Holds m (with_rights given (ranks_of l))
-  unfolding ranks_of
-  rights_only o own =
-      let wider : Outside ISSUER roster_length l m = record { whole = o.whole; same = λ j out. o.same j (λ p q. out (omega arith) q) } in
-      access_only wider (rw (o.same ISSUER (λ p q. omega arith), own))
+      record { long = o.whole; same = rw (processes_kept o (omega arith), locations, links, own) }
 
 -- a roster has no messages
 pub no_messages : (l : List ℕ) → (ranks_of l).unread ≡ nothing

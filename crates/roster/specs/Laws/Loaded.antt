@@ -1,8 +1,7 @@
 -- Passes over the columns: one entry more, and what a whole pass has made of a list or a roster. Assumes nothing.
-use Rattle.std.specs.Prelude.{false, ◌≢◌, ◌≡◌, List, ℕ, ◌+◌, ◌<◌, ◌≤◌, length, get_or, set, replicate}
+use Rattle.std.specs.Prelude.{◌≢◌, ◌≡◌, List, ℕ, ◌+◌, ◌<◌, ◌≤◌, length, get_or, set, replicate}
 use Rattle.std.proofs.Common.{sym, ap, ◌∙◌, arith, below_none, below_more, get_or-set_same, get_or-set_other}
 use Rattle.std.proofs.lemmas.List.{length-replicate, get_or-replicate}
-use Rattle.access.specs.Access.{rights}
 use Rattle.base.specs.Laws.Stores.{long_set}
 use Rattle.base.specs.Laws.Tabulate.{tabulate_is}
 use Rattle.base.specs.Lists.{tabulate}
@@ -19,7 +18,6 @@ use Rattle.roster.specs.Roster.{
   location_in,
   link_in,
   drawn_in,
-  right_in,
   ranks_of,
   Holds,
   Whole,
@@ -27,8 +25,6 @@ use Rattle.roster.specs.Roster.{
   LOCATIONS,
   LINKS,
   DRAWN,
-  ISSUER,
-  GRANTS,
   roster_length,
 }
 
@@ -128,5 +124,4 @@ cleared {l} so all =
     let locations = tabulate_constant cells (location_in l) unknown (λ k b. rw (zero (LOCATIONS + k) (omega arith))) in
     let links = tabulate_constant cells (link_in l) apart (λ k b. rw (zero (LINKS + k) (omega arith), link_zero)) in
     let drawn = tabulate_constant hosts (drawn_in l) 0 (λ k b. rw (zero (DRAWN + k) (omega arith))) in
-    let rights = tabulate_constant rights (right_in l) false (λ k b. rw (zero (GRANTS + k) (omega arith))) in
-    record { long = so.long; same = rw (processes, locations, links, drawn, rights, zero ISSUER (omega arith)) }
+    record { long = so.long; same = rw (processes, locations, links, drawn) }

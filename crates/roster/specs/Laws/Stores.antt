@@ -1,20 +1,17 @@
 -- The columns of a roster after a store. Assumes nothing.
-use Rattle.std.specs.Prelude.{Bool, ◌≢◌, ◌≡◌, List, ℕ, ◌+◌, ◌<◌, length, get_or, set}
+use Rattle.std.specs.Prelude.{◌≢◌, ◌≡◌, List, ℕ, ◌+◌, ◌<◌, length, get_or, set}
 use Rattle.std.proofs.Common.{ap, ◌∙◌, arith, get_or-set_same, get_or-set_other}
-use Rattle.access.specs.Access.{rights, issued_by}
-use Rattle.access.specs.declared.User.{User}
-use Rattle.base.specs.Laws.Tabulate.{tabulate_at, tabulate_same, tabulate_set}
+use Rattle.base.specs.Laws.Tabulate.{tabulate_at, tabulate_set}
 use Rattle.base.specs.Lists.{tabulate}
 use Rattle.transit.specs.Message.{ranks}
 use Rattle.transit.specs.declared.Rank.{Rank}
-use Rattle.broker.specs.State.{idle, status, request, with_status, with_request, with_access}
+use Rattle.broker.specs.State.{idle, status, request, with_status, with_request}
 use Rattle.broker.specs.declared.process.Process.{Process}
 use Rattle.broker.specs.declared.process.Request.{Request}
 use Rattle.broker.specs.declared.process.Status.{Status}
-use Rattle.roster.specs.Laws.Columns.{stored, processes_only, access_only}
-use Rattle.roster.specs.Loaded.{with_rights}
-use Rattle.roster.specs.Numbers.{status_of, request_of, issuer_of, right_of}
-use Rattle.roster.specs.Roster.{process_in, right_in, ranks_of, Holds, Whole, REQUESTS, ISSUER, GRANTS}
+use Rattle.roster.specs.Laws.Columns.{stored, processes_only}
+use Rattle.roster.specs.Numbers.{status_of, request_of}
+use Rattle.roster.specs.Roster.{process_in, ranks_of, Holds, Whole, REQUESTS}
 
 -- a column of n numbers from `start` on
 pub column_set : {A : Type 0} (decode : ℕ → A) (start n : ℕ) (l : List ℕ) {i w : ℕ} {x : A} → i < n → start + i < length l → decode w ≡ x
@@ -54,22 +51,3 @@ request_stored l r w whole b call =
     processes_only (stored l i w whole (omega arith) (omega arith))
     (process_set l (set l i w) r.0 _ b (rw (get_or-set_same l i w 0 (omega arith), call, standing, before, status))
     (λ j p q. get_or-set_other l i j w 0 q))
-
--- and of who issues the records
-pub issuer_stored : (l : List ℕ) (w : ℕ) {u : User} → Whole l → issuer_of w ≡ u
-    → Holds (set l ISSUER w) (with_access (issued_by u (ranks_of l).access) (ranks_of l))
-unfolding ranks_of
-issuer_stored l w whole same =
-    let given = tabulate_same rights (right_in (set l ISSUER w)) (right_in l)
-    (λ k b. ap right_of (get_or-set_other l ISSUER (GRANTS + k) w 0 (λ e. omega arith))) in
-    access_only (stored l ISSUER w whole (omega arith) (omega arith))
-    (rw (get_or-set_same l ISSUER w 0 (omega (arith, whole)), same, given))
-
--- and of a right, by its cell
-pub right_stored : (l : List ℕ) (i w : ℕ) {given : Bool} → Whole l → i < rights → right_of w ≡ given
-    → Holds (set l (GRANTS + i) w) (with_rights (set (ranks_of l).access.rights i given) (ranks_of l))
-unfolding ranks_of
-right_stored l i w {given} whole below same =
-    let anew = column_set right_of GRANTS rights l {i = i} {w = w} {x = given} below (omega (arith, whole)) same in
-    access_only (stored l (GRANTS + i) w whole (omega arith) (omega arith))
-    (rw (get_or-set_other l (GRANTS + i) ISSUER w 0 (λ e. omega arith), anew))

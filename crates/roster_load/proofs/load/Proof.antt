@@ -7,15 +7,14 @@ use Rattle.roster_load.proofs.load.Tie as tie
 
 returns : tie.Need-returns
 returns c =
-    let drawn = c.before.before in
-    let links = drawn.before.before in
+    let links = c.before.before in
     let locations = links.before.before in
     let processes = locations.before.before in
     record {
-      long = c.load-access.ensures.long;
-      same = c.load-access.ensures.same ∙ rw (drawn.load-drawn.ensures.same, links.load-links.ensures.same)
-          (rw (locations.load-locations.ensures.same, processes.load-processes.ensures.same, no_messages));
+      long = c.load-drawn.ensures.long;
+      same = c.load-drawn.ensures.same ∙ rw (links.load-links.ensures.same, locations.load-locations.ensures.same)
+          (rw (processes.load-processes.ensures.same, no_messages));
     }
 
 pub load_spec : {M : Type 1} → statement M
-load_spec = tie.close (tie.spec (λ c. search rules) (λ c. search rules) (λ c. search rules) (λ c. search rules) (λ c. search rules) returns)
+load_spec = tie.close (tie.spec (λ c. search rules) (λ c. search rules) (λ c. search rules) (λ c. search rules) returns)

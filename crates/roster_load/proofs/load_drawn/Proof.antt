@@ -7,12 +7,12 @@ use Rattle.roster.specs.Laws.Columns.{drawn_only}
 use Rattle.roster.specs.Laws.Loaded.{fill_none, fill_next, fill_whole}
 use Rattle.roster.specs.Loaded.{Filled}
 use Rattle.roster.specs.Numbers.{drawn_of}
-use Rattle.roster.specs.Roster.{drawn_in, DRAWN, ISSUER}
+use Rattle.roster.specs.Roster.{drawn_in, DRAWN, roster_length}
 use Rattle.roster_load.proofs.load_drawn.Statement.{statement}
 use Rattle.roster_load.proofs.load_drawn.Tie as tie
 
 abbrev invariant-loop : tie.invariant-loop
-invariant-loop roster₀ drawn i₀ roster i = (i ≤ hosts) × Filled drawn_in 0 drawn i DRAWN ISSUER roster₀ roster
+invariant-loop roster₀ drawn i₀ roster i = (i ≤ hosts) × Filled drawn_in 0 drawn i DRAWN roster_length roster₀ roster
 
 abbrev decreases-loop : tie.decreases-loop
 decreases-loop roster₀ drawn i₀ roster i = hosts - i

@@ -5,13 +5,11 @@ use Rattle.roster_load.proofs.unload.Tie as tie
 
 returns : tie.Need-returns
 returns c =
-    let drawn = c.before in
-    let links = drawn.before in
+    let links = c.before in
     let locations = links.before in
     let processes = locations.before in
-    rw (c.access-in.ensures, drawn.drawn-in.ensures, links.links-in.ensures, locations.locations-in.ensures)
-    (rw processes.processes_in.ensures)
+    rw (c.drawn-in.ensures, links.links-in.ensures, locations.locations-in.ensures, processes.processes_in.ensures)
 
 pub unload-spec : {M : Type 1} → statement M
 unload-spec =
-    tie.close (tie.spec (λ c. search rules) (λ c. search rules) (λ c. search rules) (λ c. search rules) (λ c. search rules) returns)
+    tie.close (tie.spec (λ c. search rules) (λ c. search rules) (λ c. search rules) (λ c. search rules) returns)

@@ -6,7 +6,7 @@ use native.Mathlib.Nat.{pos_of_ne-zero}
 use borrow.Author.Rules.{rules}
 use borrow.Author.Tests.{eqb-false}
 use Rattle.protocol.specs.Checks.{refusal}
-use Rattle.protocol.specs.Laws.Accepted.{start_fits, send_fits, take_fits, move_fits, heed_fits, drain_fits, land_fits, part_fits, grant_fits}
+use Rattle.protocol.specs.Laws.Accepted.{start_fits, send_fits, take_fits, move_fits, heed_fits, drain_fits, land_fits, part_fits}
 use Rattle.broker.specs.State.{State}
 use Rattle.protocol.specs.Step.{apply}
 use Rattle.record.specs.declared.Record.{Record}
@@ -78,12 +78,6 @@ part-requires c κs =
     let start = known.before.before in
     let fits = part_fits (desk start) _ _ (passing start _ known.read10.given.1) in
     (start.requires.0.long, ((fits.two.first, fits.two.second), fits.two.apart))
-
-grant-requires : tie.Need-grant-requires
-grant-requires c κs =
-    let known = c.before.before in
-    let start = known.before.before in
-    (start.requires.0.long, (grant_fits (desk start) _ _ _ (passing start _ known.read14.given.1)).some)
 
 returns : tie.Need-returns
 unfolding apply
@@ -167,25 +161,10 @@ returns-12 c =
     let start = known.before.before in
     rw known.read12.given.1 (c.look.ensures start.args.roster.now start.requires.0.long)
 
-returns-13 : tie.Need-returns-13
-unfolding apply
-returns-13 c =
-    let known = c.before.before.before in
-    let start = known.before.before in
-    rw known.read13.given.1 (roster_does start.requires.0.mail c.issue.ensures)
-
-returns-14 : tie.Need-returns-14
-unfolding apply
-returns-14 c =
-    let known = c.before.before.before in
-    let start = known.before.before in
-    rw known.read14.given.1 (roster_does start.requires.0.mail c.grant.ensures)
-
 pub apply-spec : {M : Type 1} → statement M
 apply-spec =
     tie.close (tie.spec (λ c. search rules) start-requires (λ c. search rules) (λ c. search rules) (λ c. search rules) (λ c. search rules)
     (λ c. search rules) send-requires (λ c. search rules) take-requires (λ c. search rules) move-to-requires (λ c. search rules)
     heed-requires (λ c. search rules) drain-requires (λ c. search rules) land-requires (λ c. search rules) part-requires (λ c. search rules)
-    (λ c. search rules) (λ c. search rules) (λ c κs. search rules) (λ c. search rules) (λ c κs. search rules)
-    (λ c. search rules) grant-requires returns returns-2 returns-3 returns-4 returns-5 returns-6 returns-7
-    returns-8 returns-9 returns-10 returns-11 returns-12 returns-13 returns-14)
+    (λ c. search rules) (λ c. search rules) (λ c κs. search rules) returns returns-2 returns-3 returns-4 returns-5 returns-6 returns-7
+    returns-8 returns-9 returns-10 returns-11 returns-12)

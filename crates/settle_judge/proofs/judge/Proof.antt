@@ -61,19 +61,11 @@ returns-11 c = rw c.before.before.read11.given.1 c.end-verdict.ensures
 returns-12 : tie.Need-returns-12
 returns-12 c = rw c.before.before.read12.given.1 c.look-verdict.ensures
 
-returns-13 : tie.Need-returns-13
-returns-13 c = rw c.before.before.read13.given.1 (c.issue-verdict.ensures _)
-
-returns-14 : tie.Need-returns-14
-returns-14 c =
-    let known = c.before.before in
-    rw known.read14.given.1 (c.grant-verdict.ensures (unread known.before.before))
-
 pub judge-spec : {M : Type 1} → statement M
 judge-spec =
     tie.close (tie.spec (λ c. search rules) (λ c. search rules) (λ c. search rules) (λ c. search rules) (λ c. search rules)
     (λ c. search rules) (λ c. search rules) (λ c. search rules) (λ c. search rules) (λ c. search rules) (λ c. search rules)
     (λ c. search rules) (λ c. search rules) (λ c. search rules) (λ c. search rules) (λ c κs. search rules) (λ c. search rules)
     (λ c. search rules) (λ c. search rules) (λ c. search rules) (λ c. search rules) (λ c κs. search rules) (λ c. search rules)
-    (λ c κs. search rules) (λ c. search rules) (λ c. search rules) (λ c. search rules) (λ c. search rules) returns
-    returns-2 returns-3 returns-4 returns-5 returns-6 returns-7 returns-8 returns-9 returns-10 returns-11 returns-12 returns-13 returns-14)
+    (λ c κs. search rules) returns returns-2 returns-3 returns-4 returns-5 returns-6 returns-7 returns-8 returns-9 returns-10 returns-11
+    returns-12)

@@ -1,9 +1,8 @@
--- Soundness of a state is the tests of who issues its records, of its ranks, of its pairs and of its messages, where its arrays have their
--- lengths and its numbers fit. Assumes nothing.
+-- Soundness of a state is the tests of its ranks, of its pairs and of its messages, where its arrays have their lengths and its
+-- numbers fit. Assumes nothing.
 use Rattle.std.specs.Prelude.{◌≡◌, Bool, true, not, ◌&&◌, ◌||◌, List, [], ◌∷◌, map, ℕ, ◌/◌, ◌%◌, ◌<◌, ◌≤◌, leb, length, get_or}
 use Rattle.std.proofs.Common.{ap, arith}
 use borrow.Author.Tests.{leb-true, le-leb}
-use Rattle.access.specs.Access.{is_user, rights}
 use Rattle.base.specs.Laws.Tests.{both, both_left, both_right, AllTrue, parts, chained, same_truth}
 use Rattle.base.specs.Lists.{select, every}
 use Rattle.base.specs.Laws.Lists.{every_wider, every_and}
@@ -16,7 +15,7 @@ use Rattle.protocol.specs.Laws.Sound.{AtPairs, Shape, Names, Pairs, Mail, Facts,
 use Rattle.protocol.specs.Messages.{sent_between}
 use Rattle.broker.specs.Names.{numbers, is_started, is_migrating, is_live, is_closed, is_open, is_closing, is_clear}
 use Rattle.protocol.specs.Sound.{sound}
-use Rattle.broker.specs.State.{State, cell, status, request, location, connection, backlog, link_at, drawn_on, messages, issuer}
+use Rattle.broker.specs.State.{State, cell, status, request, location, connection, backlog, link_at, drawn_on, messages}
 use Rattle.soundness_messages.specs.Laws.Messages.{has_cell, pair_inside, pair_is_cell}
 use Rattle.soundness_messages.specs.Laws.Rising.{numbers_in, never_falls_lem, rises_within_lem, rises_tells, rises_of}
 use Rattle.soundness_pairs.specs.Laws.Walk.{cell_of}
@@ -25,10 +24,7 @@ use Rattle.soundness_names.specs.Names.{vmids_drawn}
 use Rattle.soundness_pairs.specs.Pairs.{location_fits, vmids_apart, connection_fits, backlog_fits, request_fits, pair_sound_at, pairs_sound}
 use Rattle.soundness_ranks.specs.Ranks.{request_drawn, nothing_with_self, rank_sound_at, ranks_sound}
 
--- the four tests
-abbrev pub by_issuer : State → Bool
-by_issuer s = is_user (issuer s)
-
+-- the three tests
 abbrev pub by_ranks : State → Bool
 by_ranks s = ranks_sound s.drawn s.processes s.links
 
@@ -43,7 +39,6 @@ pub record Typed (s : State) : Type 0 where
   pub shape : Shape s
   pub numbered : (h : ℕ) → h < 8 → drawn_on s h ≤ numbers
   pub held : s.unread.count ≤ limit → length (messages s) ≡ s.unread.count
-  pub rights_long : length s.access.rights ≡ rights
 
 module _ (s : State) where
   -- the clauses of a rank's test, the first and the others
@@ -198,19 +193,16 @@ module _ (s : State) where
             rw (rises_within_lem 0 (sent_between a b s), pair_is_cell a b k l named) at (told-too.1 (cell a b) (omega arith));
       }
 
--- Soundness is the four tests.
-pub sound_by_parts : (s : State) → Typed s → sound s ≡ (by_issuer s && by_ranks s && by_pairs s && by_messages s)
+-- Soundness is the three tests.
+pub sound_by_parts : (s : State) → Typed s → sound s ≡ (by_ranks s && by_pairs s && by_messages s)
 sound_by_parts s t =
-    same_truth (sound s) (by_issuer s && by_ranks s && by_pairs s && by_messages s)
+    same_truth (sound s) (by_ranks s && by_pairs s && by_messages s)
+    (λ h. let f = facts s h in both (both (ranks_pass s f) (pairs_pass s f)) (messages_pass s f.mail))
     (λ h.
-    let f = facts s h in
-    both (both (both f.rights.issuer_known_lem (ranks_pass s f)) (pairs_pass s f)) (messages_pass s f.mail))
-    (λ h.
-    let p = parts (by_issuer s) (by_ranks s ∷ by_pairs s ∷ by_messages s ∷ []) h in
+    let p = parts (by_ranks s) (by_pairs s ∷ by_messages s ∷ []) h in
     of_facts s record {
       shape = t.shape;
-      names = names_hold s t p.1.0 p.1.1.0;
-      pairs = pairs_hold s p.1.0 p.1.1.0;
-      mail = messages_hold s t p.1.1.1.0;
-      rights = record { issuer_known_lem = p.0; rights_long = t.rights_long };
+      names = names_hold s t p.0 p.1.0;
+      pairs = pairs_hold s p.0 p.1.0;
+      mail = messages_hold s t p.1.1.0;
     })

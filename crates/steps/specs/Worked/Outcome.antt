@@ -2,7 +2,6 @@
 -- Assumes nothing.
 use Rattle.std.specs.Prelude.{[], ◌∷◌, ◌≡◌, refl, ℕ, get_or}
 use Rattle.std.proofs.Common.{ap, arith}
-use Rattle.access.specs.Access.{fresh_access}
 use Rattle.answer.specs.declared.Answer.TheVariants.{Refused}
 use Rattle.answer.specs.declared.Refusal.TheVariants.{Unsound}
 use Rattle.broker.specs.State.{view}
@@ -19,14 +18,7 @@ slot v = message (rank 0) (rank 1) Channel v 1
 -- nothing is unread, and so the slot is unused
 abbrev unused : ℕ → Broker
 unused v =
-    record {
-      processes = [];
-      locations = [];
-      links = [];
-      drawn = [];
-      transit = record { messages = slot v ∷ []; count = 0; sent = [] };
-      access = fresh_access;
-    }
+    record { processes = []; locations = []; links = []; drawn = []; transit = record { messages = slot v ∷ []; count = 0; sent = [] } }
 
 pub same_to_the_desk : view (unused 1) ≡ view (unused 2)
 same_to_the_desk = refl

@@ -82,21 +82,12 @@ returns-24 c = (rw c.enum-told24.given.1, omega arith)
 returns-25 : tie.Need-returns-25
 returns-25 c = (rw c.enum-told25.given.1, omega arith)
 
-returns-26 : tie.Need-returns-26
-returns-26 c = (rw c.enum-told26.given.1, omega arith)
-
-returns-27 : tie.Need-returns-27
-returns-27 c = (rw c.enum-told27.given.1, omega arith)
-
-returns-28 : tie.Need-returns-28
-returns-28 c = (rw c.enum-told28.given.1, omega arith)
-
 pub row-spec : {M : Type 1} → statement M
 row-spec =
     tie.close (tie.spec enum_told (λ c. search rules) (λ c. search rules) (λ c. search rules) (λ c. search rules) (λ c. search rules)
     (λ c. search rules) (λ c. search rules) (λ c. search rules) (λ c. search rules) (λ c. search rules) (λ c. search rules)
     (λ c. search rules) (λ c. search rules) (λ c. search rules) (λ c. search rules) (λ c. search rules) (λ c. search rules)
     (λ c. search rules) (λ c. search rules) (λ c. search rules) (λ c. search rules) (λ c. search rules) (λ c. search rules)
-    (λ c. search rules) (λ c. search rules) (λ c. search rules) (λ c. search rules) returns returns-2 returns-3 returns-4 returns-5 returns-6 returns-7 returns-8 returns-9 returns-10 returns-11
+    (λ c. search rules) returns returns-2 returns-3 returns-4 returns-5 returns-6 returns-7 returns-8 returns-9 returns-10 returns-11
     returns-12 returns-13 returns-14 returns-15 returns-16 returns-17 returns-18 returns-19 returns-20 returns-21 returns-22 returns-23
-    returns-24 returns-25 returns-26 returns-27 returns-28)
+    returns-24 returns-25)

@@ -3,7 +3,6 @@
 use Rattle.std.specs.Prelude.{◌≡◌, refl, true, false, not, cond, ◌&&◌, List, [], ◌∷◌, ℕ, ◌+◌, ◌<◌, ◌≤◌, eqb, get_or, set}
 use Rattle.std.proofs.Math.Option.{none}
 use Rattle.std.proofs.Common.{arith, lt-ltb}
-use Rattle.access.specs.declared.Access.{Access}
 use Rattle.base.specs.Laws.Tests.{both, both_right, chosen, first_wider, eqb_swap}
 use Rattle.base.specs.Lists.{every}
 use Rattle.base.specs.Laws.Lists.{every_wider}
@@ -63,12 +62,10 @@ use Rattle.broker.specs.State.{
   with_locations,
   with_links,
   with_unread,
-  with_access,
 }
 use Rattle.protocol.specs.Life.{announced, start, end}
 use Rattle.protocol.specs.Messages.{send, take, look}
 use Rattle.protocol.specs.Migrate.{move, heed, land}
-use Rattle.protocol.specs.Rights.{issue, grant}
 use Rattle.broker.specs.Names.{numbers, unknown, same_vmid, is_started, is_ended, endpoint, processes_of, vmids_of, asks_for}
 use Rattle.protocol.specs.Sound.{is_drawn, of_call, none_shared, distinct}
 use Rattle.protocol.specs.Step.{apply}
@@ -80,36 +77,11 @@ use Rattle.broker.specs.declared.process.Status.{Status}
 use Rattle.broker.specs.declared.process.Status.TheVariants.{Running, Migrating, Ended}
 use Rattle.broker.specs.declared.process.Vmid.{Vmid}
 use Rattle.record.specs.declared.Record.{Record}
-use Rattle.record.specs.declared.Record.TheVariants.{
-  Start,
-  Call,
-  Route,
-  Send,
-  Take,
-  Move,
-  Heed,
-  Drain,
-  Land,
-  Part,
-  End,
-  Look,
-  Issue,
-  Grant,
-}
+use Rattle.record.specs.declared.Record.TheVariants.{Start, Call, Route, Send, Take, Move, Heed, Drain, Land, Part, End, Look}
 
--- links and messages hold no names, and neither do the issuer and the rights
+-- links and messages hold no names
 names_elsewhere : {s : State} (ls : List Link) (u : Unread) → Names s → Names (with_links ls (with_unread u s))
 names_elsewhere ls u n =
-    record {
-      numbers_in_range_lem = n.numbers_in_range_lem;
-      vmids_drawn_lem = n.vmids_drawn_lem;
-      calls_drawn_lem = n.calls_drawn_lem;
-      tables_drawn_lem = n.tables_drawn_lem;
-      vmids_apart_lem = n.vmids_apart_lem;
-    }
-
-names_issued : {s : State} {x : Access} → Names s → Names (with_access x s)
-names_issued n =
     record {
       numbers_in_range_lem = n.numbers_in_range_lem;
       vmids_drawn_lem = n.vmids_drawn_lem;
@@ -246,7 +218,7 @@ module _ {s : State} (f : Shape s) (n : Names s) where
 
 -- every accepted record keeps the names sound
 pub names_kept : (s : State) (r : Record) → Facts s → refusal s r ≡ none → Names (apply r s).state
-unfolding apply start call send take move heed land part end look issue grant
+unfolding apply start call send take move heed land part end look
 names_kept s (Start r h) f p =
     let k = start_fits s r h p in
     let v = next_vmid s h in
@@ -304,5 +276,3 @@ names_kept s (Part a b) f p = names_elsewhere _ _ f.names
 names_kept s (End r) f p =
     names_at_end f.shape f.names r (Ended (endpoint (status s r))) (end_fits s r p).one refl refl refl (λ b hb e. refl)
 names_kept s (Look r) f p = f.names
-names_kept s (Issue u) f p = names_issued f.names
-names_kept s (Grant u r n) f p = names_issued f.names

@@ -2,7 +2,6 @@
 -- Assumes nothing.
 use Rattle.std.specs.Prelude.{◌≡◌, List, ℕ, length}
 use Rattle.std.proofs.Common.{length-set}
-use Rattle.access.specs.declared.Access.{Access}
 use Rattle.transit.specs.Laws.Operations.{appends, full_stays, relabels, relabels_first, removes}
 use Rattle.transit.specs.Unread.{Unread, appended, limit, head, leave, removed}
 use Rattle.transit.specs.declared.Found.{Found}
@@ -22,9 +21,8 @@ use Rattle.protocol.specs.Laws.Sound.{Shape}
 use Rattle.protocol.specs.Life.{start, end}
 use Rattle.protocol.specs.Messages.{send, take, look}
 use Rattle.protocol.specs.Migrate.{move, heed, land}
-use Rattle.protocol.specs.Rights.{issue, grant}
 use Rattle.broker.specs.Names.{hosts, asks_for}
-use Rattle.broker.specs.State.{State, request, with_process, with_locations, with_links, with_drawn, with_unread, with_access}
+use Rattle.broker.specs.State.{State, request, with_process, with_locations, with_links, with_drawn, with_unread}
 use Rattle.protocol.specs.Step.{apply}
 use Rattle.broker.specs.declared.link.Connection.{Connection}
 use Rattle.broker.specs.declared.link.Connection.TheVariants.{Closed, Open}
@@ -32,22 +30,7 @@ use Rattle.broker.specs.declared.link.Link.{Link}
 use Rattle.broker.specs.declared.process.Process.{Process}
 use Rattle.broker.specs.declared.process.Vmid.{Vmid}
 use Rattle.record.specs.declared.Record.{Record}
-use Rattle.record.specs.declared.Record.TheVariants.{
-  Start,
-  Call,
-  Route,
-  Send,
-  Take,
-  Move,
-  Heed,
-  Drain,
-  Land,
-  Part,
-  End,
-  Look,
-  Issue,
-  Grant,
-}
+use Rattle.record.specs.declared.Record.TheVariants.{Start, Call, Route, Send, Take, Move, Heed, Drain, Land, Part, End, Look}
 
 -- the shape after a change of one part
 shape_with_process : {s : State} (r : Rank) (p : Process) → Shape s → Shape (with_process r p s)
@@ -102,17 +85,6 @@ shape_with_unread u e f =
       sent_long = e;
     }
 
--- the issuer and the rights are none of these parts
-shape_elsewhere : {s : State} {x : Access} → Shape s → Shape (with_access x s)
-shape_elsewhere f =
-    record {
-      processes_long = f.processes_long;
-      locations_long = f.locations_long;
-      links_long = f.links_long;
-      drawn_long = f.drawn_long;
-      sent_long = f.sent_long;
-    }
-
 -- there are as many counts sent after a send and after a take
 sends_long : (u : Unread) (a b : Rank) (p : Place) (v : ℕ) → length u.sent ≡ cells
     → length (appended u a b p v).unread.sent ≡ cells
@@ -135,7 +107,7 @@ shape_withdraw {s} a b f = chosen Shape (asks_for b (request s a)) _ s (λ e. sh
 
 -- every record keeps the shape, accepted or not
 pub shape_kept : (s : State) (r : Record) → Shape s → Shape (apply r s).state
-unfolding apply start end call part send take look move heed land issue grant
+unfolding apply start end call part send take look move heed land
 shape_kept s (Start r h) f =
     shape_with_locations _ (announced_long r _ s.locations f.locations_long)
     (shape_with_process r _ (shape_with_drawn h _ f))
@@ -157,5 +129,3 @@ shape_kept s (Land r) f = shape_with_process r _ (shape_with_unread _ (rw relabe
 shape_kept s (Part a b) f = shape_connect a b Closed (shape_with_unread _ (rw (relabels, relabels) f.sent_long) f)
 shape_kept s (End r) f = shape_with_process r _ f
 shape_kept s (Look r) f = f
-shape_kept s (Issue u) f = shape_elsewhere f
-shape_kept s (Grant u r n) f = shape_elsewhere f

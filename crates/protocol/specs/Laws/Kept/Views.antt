@@ -21,7 +21,6 @@ use Rattle.base.specs.Laws.Lists.{
 }
 use Rattle.base.specs.Laws.Tests.{by_test, both, both_left, both_right, not_both, same_either, if_so_lem}
 use Rattle.base.specs.Lists.{every, change_each, select}
-use Rattle.access.specs.declared.Access.{Access}
 use Rattle.protocol.specs.Checks.{refusal}
 use Rattle.transit.specs.Message.{relabelled, picks, at, between, same_place, is_same_rank, to, place_order, ranks}
 use Rattle.transit.specs.Unread.{Unread, relabel_first, first_sent, appended, head, leave}
@@ -56,27 +55,11 @@ use Rattle.protocol.specs.Laws.View.{Side, side, Change, pair_fits, message_fits
 use Rattle.protocol.specs.Life.{start, end}
 use Rattle.protocol.specs.Messages.{send, take, look, sent_message, place_over}
 use Rattle.protocol.specs.Migrate.{move, heed, drain, land, drain_found, on_source_channel}
-use Rattle.protocol.specs.Rights.{issue, grant}
 use Rattle.broker.specs.Names.{is_ended, is_closed, is_unheeded, same_vmid, endpoint, posted_to}
-use Rattle.broker.specs.State.{State, messages, status, request, backlog, with_unread, with_access}
+use Rattle.broker.specs.State.{State, messages, status, request, backlog, with_unread}
 use Rattle.protocol.specs.Step.{apply}
 use Rattle.record.specs.declared.Record.{Record}
-use Rattle.record.specs.declared.Record.TheVariants.{
-  Start,
-  Call,
-  Route,
-  Send,
-  Take,
-  Move,
-  Heed,
-  Drain,
-  Land,
-  Part,
-  End,
-  Look,
-  Issue,
-  Grant,
-}
+use Rattle.record.specs.declared.Record.TheVariants.{Start, Call, Route, Send, Take, Move, Heed, Drain, Land, Part, End, Look}
 
 -- the pairs, each message at its place, and the order of all
 pub record Views (s : State) : Type 0 where
@@ -192,18 +175,11 @@ module _ (s : State) (f : Facts s) where
       let e = Effects.route_on_effect s f a b k v in
       rw (g, h) (views_still f e refl (λ x. refl) (λ x. refl) (free f e (λ x. refl)))))
 
-  -- a state that differs in its messages, or in who issues the records and in the rights, alone
-  views_beside : (u : Unread) (x : Access) → every (fits s) u.messages ≡ true → InOrder u → Views (with_access x (with_unread u s))
-  views_beside u x placed order =
-      let s' = with_access x (with_unread u s) in
-      let pairs = pairs_from_fits s' f.pairs.nothing_with_self_lem (λ a b ha hb d. pair_fits_lem s f.pairs a b ha hb) in
-      record { pairs = pairs; placed = placed; order = order }
-
+  -- a state that differs in its messages alone
   views_with : (u : Unread) → every (fits s) u.messages ≡ true → InOrder u → Views (with_unread u s)
-  views_with u = views_beside u s.access
-
-  views_issued : (x : Access) → Views (with_access x s)
-  views_issued x = views_beside s.unread x (messages_fit s f.mail) (facts_order s f)
+  views_with u placed order =
+      let pairs = pairs_from_fits (with_unread u s) f.pairs.nothing_with_self_lem (λ a b ha hb d. pair_fits_lem s f.pairs a b ha hb) in
+      record { pairs = pairs; placed = placed; order = order }
 
   views_send : (a b : Rank) (v : ℕ) → Accepted.SendFits s a b → Views (send a b v s).state
   unfolding send
@@ -257,7 +233,7 @@ module _ (s : State) (f : Facts s) where
           views_still f (Effects.clear_effect s f r p k ready) refl (λ x. refl) (λ x. refl) (none_passes (on_lane p r) (messages s) none)
 
 pub views_kept : (s : State) (r : Record) → Facts s → refusal s r ≡ none → Views (apply r s).state
-unfolding apply look start end call move heed land part issue grant
+unfolding apply look start end call move heed land part
 views_kept s (Start r h) f p =
     let e = Effects.start_effect s f r h (Accepted.start_fits s r h p) in
     views_still f e refl (λ x. refl) (λ x. refl) (free f e (λ x. refl))
@@ -301,6 +277,4 @@ views_kept s (End r) f p =
     views_still f (Effects.end_effect s f r k) refl (λ x. refl) (λ x. refl)
     (every_wider (λ m. not (to r m)) _ (λ m h. rw and-true h) (messages s)
     (none_passes (to r) (messages s) (none_of (select (to r) (messages s)) k.nothing)))
-views_kept s (Look r) f p = views_issued s f s.access
-views_kept s (Issue u) f p = views_issued s f _
-views_kept s (Grant u r n) f p = views_issued s f _
+views_kept s (Look r) f p = views_with s f s.unread (messages_fit s f.mail) (facts_order s f)

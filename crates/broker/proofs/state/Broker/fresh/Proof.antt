@@ -1,12 +1,11 @@
--- `broker::state::Broker::fresh` meets its contract: the unread part is what `Transit::fresh` ensures, and the issuer with the rights what
--- `Access::fresh` does. Assumes nothing.
+-- `broker::state::Broker::fresh` meets its contract: the unread part is what `Transit::fresh` ensures. Assumes nothing.
 use borrow.Author.Rules.{rules}
 use Rattle.broker.proofs.state.Broker.fresh.Statement.{statement}
 use Rattle.broker.proofs.state.Broker.fresh.Tie as tie
 
 returns : tie.Need-returns
-returns c = rw (c.fresh2.ensures, c.before.fresh.ensures)
+returns c = rw c.fresh.ensures
 
 pub fresh-spec : {M : Type 1} → statement M
 fresh-spec =
-    tie.close (tie.spec (λ c. search rules) (λ c. search rules) returns)
+    tie.close (tie.spec (λ c. search rules) returns)

@@ -1,3 +1,0 @@
--- Users, the issuer and the rights, and laws of these.
-pub mod Access
-pub mod Laws

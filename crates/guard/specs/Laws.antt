@@ -1,2 +1,0 @@
--- Theorems of the definitions.
-pub mod Guarded

@@ -1,2 +1,0 @@
--- Worked runs, computed from the definitions.
-pub mod Witness

@@ -1,2 +1,0 @@
--- Laws of the definitions that the contracts cite.
-pub mod Judged
