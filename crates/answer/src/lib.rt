@@ -1,11 +1,13 @@
 // The answer to a step. Paper 01, "Where each step is checked"; paper 02, changes 2 and 4.
+#![tactic(auto)]
+
 ghost use Rattle.std.specs.Prelude.{cond, ◌≡◌, ◌+◌, ◌<◌, ltb};
 ghost use Rattle.answer.specs.Answer.{refusal_number, number, values, listed};
 
 use transit::{Count, Value};
 
 // Why a step is refused: the rows of the table of checks, numbers 1 to 17, 19 to 25 and 28 in this order.
-#[derive(Drop)]
+#[derive(Clone, Copy)]
 pub enum Refusal {
     Unsound,
     UnknownKind,
@@ -34,14 +36,14 @@ pub enum Refusal {
     SequenceSpent,
 }
 
-#[derive(Drop)]
+#[derive(Clone, Copy)]
 pub enum Answer {
     Accepted(Values),
     Refused(Refusal),
 }
 
 // v1, v2 and v3 of an answer.
-#[derive(Drop)]
+#[derive(Clone, Copy)]
 pub struct Values(pub Value, pub Value, pub Value);
 
 // A count of unread messages as it is answered and printed: its 16 bits widen here and nowhere else.

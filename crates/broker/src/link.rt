@@ -3,7 +3,7 @@ ghost use Rattle.std.specs.Prelude.{◌≡◌};
 ghost use Rattle.broker.specs.Names.{is_closed, is_open, is_closing, is_clear, is_unheeded};
 
 // A line: none; plain; or a notice, a connection whose peer has announced its migration.
-#[derive(Drop)]
+#[derive(Clone, Copy)]
 pub enum Connection {
     Closed,
     Open,
@@ -12,14 +12,14 @@ pub enum Connection {
 
 // An await, what the old channel still holds for the source process of a migration:
 // none; unheeded, the peer has not closed its side yet; or marked, the end marker is on the channel.
-#[derive(Drop)]
+#[derive(Clone, Copy)]
 pub enum Backlog {
     Clear,
     Unheeded,
     Marked,
 }
 
-#[derive(Drop)]
+#[derive(Clone, Copy)]
 pub struct Link {
     pub connection: Connection,
     pub backlog: Backlog,

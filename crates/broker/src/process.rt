@@ -7,11 +7,11 @@ ghost use Rattle.broker.specs.Names.{unknown, is_open_request, asks_for, posted_
 use transit::Rank;
 
 // The lower level of name: a host, and a number drawn on it. `Vmid(0, 0)` is unknown.
-#[derive(Drop)]
+#[derive(Clone, Copy)]
 pub struct Vmid(pub u8, pub u16);
 
 // A rank's standing. A migrating rank has a source process (the mover) and a target process (the arrival).
-#[derive(Drop)]
+#[derive(Clone, Copy)]
 pub enum Status {
     Unstarted,
     Running(Vmid),
@@ -20,13 +20,13 @@ pub enum Status {
 }
 
 // A connection request (a call): the rank called, and the vmid that the request was posted to.
-#[derive(Drop)]
+#[derive(Clone, Copy)]
 pub enum Request {
     Absent,
     Posted(Rank, Vmid),
 }
 
-#[derive(Drop)]
+#[derive(Clone, Copy)]
 pub struct Process {
     pub status: Status,
     pub request: Request,

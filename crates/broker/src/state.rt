@@ -8,7 +8,7 @@ use transit::{CELLS, RANKS, Rank, Transit};
 
 // Sixteen processes; sixteen location tables of sixteen vmids each, row after row; a link for each rank towards each rank,
 // laid out likewise; how many numbers are drawn on each host; and the unread messages.
-#[derive(Drop)]
+#[derive(Clone, Copy)]
 pub struct Broker {
     pub processes: [Process; RANKS],
     pub locations: [Vmid; CELLS],

@@ -1,5 +1,7 @@
 // A panel maker's program that keeps the working arrays between steps, as one does who gets a record at a time: the fresh state in the
 // arrays, a step in place for each record of a log, and at the end the state by value.
+#![tactic(auto)]
+
 use broker::state::Broker;
 use libc::STDOUT_FILENO;
 use roster::ROSTER_LENGTH;

@@ -1,4 +1,6 @@
 // The panel maker's program with a step of a lent state: the state stands in a variable, which is lent to the step.
+#![tactic(auto)]
+
 ghost use Rattle.std.specs.Prelude.{◌≡◌};
 ghost use Rattle.answer.specs.Answer.{NeverEighteen};
 ghost use Rattle.broker.specs.State.{view};

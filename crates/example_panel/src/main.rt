@@ -1,4 +1,6 @@
 // A panel maker's first program: a fresh state, a log, a step for each of its records, and what each was answered.
+#![tactic(auto)]
+
 use broker::state::Broker;
 use libc::STDOUT_FILENO;
 use steps::step;

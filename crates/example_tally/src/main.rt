@@ -1,4 +1,6 @@
 // Counts the answers to the log on standard input by their numbers, and prints each number that came with its count.
+#![tactic(auto)]
+
 use broker::state::Broker;
 use libc::{STDERR_FILENO, STDIN_FILENO, STDOUT_FILENO};
 use steps::step;

@@ -1,4 +1,6 @@
 // A made-up pass: a log of so many records from one number, so that a fault is told by its seed and count. Paper 02, change 1.
+#![tactic(auto)]
+
 ghost use Rattle.std.specs.Prelude.{◌≡◌, ◌*◌, ◌≤◌, length};
 ghost use Rattle.print_page.specs.Put.{Put};
 ghost use Rattle.generator.specs.Answer.{number, outcome, makes};
@@ -7,11 +9,11 @@ ghost use Rattle.generator_record.specs.MadeUp.{longest, made_log, log_leaves};
 use generator_record::{Progress, put_record};
 
 // The word at which the generator stands. A seed is the first one.
-#[derive(Drop)]
+#[derive(Clone, Copy)]
 pub struct Word(pub u32);
 
 // What a maker of a log answers.
-#[derive(Drop)]
+#[derive(Clone, Copy)]
 pub enum Made {
     // The bytes written, and the word that they leave.
     Written(usize, Word),

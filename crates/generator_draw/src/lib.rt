@@ -1,4 +1,6 @@
 // The generator: 32-bit xorshift of Marsaglia. Paper 02, change 1.
+#![tactic(auto)]
+
 ghost use Rattle.std.specs.Prelude.{◌≡◌, ◌<◌};
 ghost use Rattle.generator_draw.specs.Draw.{draw, shifted_left};
 

@@ -1,4 +1,6 @@
 // A record of a made-up pass: its kind is drawn, and then each field of its body. Paper 02, change 1.
+#![tactic(auto)]
+
 ghost use Rattle.std.specs.Prelude.{◌≡◌, ◌+◌, ◌<◌, ◌≤◌, length};
 ghost use Rattle.print_page.specs.Put.{Put};
 ghost use Rattle.record.specs.Record.{fields_of};
@@ -19,14 +21,14 @@ const RANKS: u32 = Broker::RANKS as u32;
 const HOSTS: u32 = Broker::HOSTS as u32;
 
 // How far a log has come: the bytes that are used of the buffer, and the word that the generator stands at.
-#[derive(Drop)]
+#[derive(Clone, Copy)]
 pub struct Progress {
     pub used: usize,
     pub word: u32,
 }
 
 // The fields of a body.
-#[derive(Drop)]
+#[derive(Clone, Copy)]
 pub enum Body {
     Rank,
     RankAndHost,

@@ -1,4 +1,6 @@
 // Drain: its checks in the paper's order, and what it does where none applies. Paper 01, "The step log", kind 08.
+#![tactic(auto)]
+
 ghost use Rattle.std.specs.Prelude.{◌≡◌, ◌<◌};
 ghost use Rattle.transit.specs.Message.{ranks};
 ghost use Rattle.protocol.specs.Migrate.{drain};

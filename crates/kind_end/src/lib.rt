@@ -1,4 +1,6 @@
 // End: its checks in the paper's order, and what it does where none applies. Paper 01, "The step log", kind 0B.
+#![tactic(auto)]
+
 ghost use Rattle.std.specs.Prelude.{◌≡◌};
 ghost use Rattle.transit.specs.Mail.{Mail};
 ghost use Rattle.protocol.specs.Life.{end};

@@ -1,4 +1,6 @@
 // Heed: its checks in the paper's order, and what it does where none applies. Paper 01, "The step log", kind 07.
+#![tactic(auto)]
+
 ghost use Rattle.std.specs.Prelude.{List, ◌≡◌, ℕ, ◌<◌};
 ghost use Rattle.transit.specs.Mail.{Mail};
 ghost use Rattle.transit.specs.Message.{ranks};

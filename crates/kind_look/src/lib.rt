@@ -1,4 +1,6 @@
 // Look: its checks in the paper's order, and what it does where none applies. Paper 01, "The step log", kind 0C; paper 02, change 6.
+#![tactic(auto)]
+
 ghost use Rattle.std.specs.Prelude.{List, ◌≡◌, ℕ};
 ghost use Rattle.transit.specs.Mail.{Mail};
 ghost use Rattle.transit.specs.Unread.{sender_in};

@@ -1,4 +1,6 @@
 // What a move leaves behind: its lines, and the messages of the source process. Paper 01, "The step log", kind 06.
+#![tactic(auto)]
+
 ghost use Rattle.std.specs.Prelude.{List, ℕ, ◌<◌};
 ghost use Rattle.transit.specs.Mail.{Mail};
 ghost use Rattle.transit.specs.Message.{ranks};

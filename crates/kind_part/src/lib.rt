@@ -1,4 +1,6 @@
 // Part: its checks in the paper's order, and what it does where none applies. Paper 01, "The step log", kind 0A.
+#![tactic(auto)]
+
 ghost use Rattle.std.specs.Prelude.{false, List, ◌≡◌, ℕ, ◌<◌};
 ghost use Rattle.transit.specs.Mail.{Mail};
 ghost use Rattle.transit.specs.Message.{is_same_rank, ranks};

@@ -1,4 +1,6 @@
 // Route: its checks in the paper's order, and what it does where none applies. Paper 01, "The step log", kind 03.
+#![tactic(auto)]
+
 ghost use Rattle.std.specs.Prelude.{◌≡◌};
 ghost use Rattle.transit.specs.Unread.{Unread};
 ghost use Rattle.protocol.specs.Connect.{withdraw, route_there, route_on, route};

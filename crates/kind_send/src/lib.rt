@@ -1,4 +1,6 @@
 // Send: its checks in the paper's order, and what it does where none applies. Paper 01, "The step log", kind 04; paper 02, change 4.
+#![tactic(auto)]
+
 ghost use Rattle.std.specs.Prelude.{◌≡◌, length, ℕ, ◌<◌};
 ghost use Rattle.transit.specs.Columns.{sent_in};
 ghost use Rattle.transit.specs.Mail.{messages_in};

@@ -1,4 +1,6 @@
 // Take: its checks in the paper's order, and what it does where none applies. Paper 01, "The step log", kind 05; paper 02, change 4.
+#![tactic(auto)]
+
 ghost use Rattle.std.specs.Prelude.{List, ◌≡◌, ℕ, ◌<◌};
 ghost use Rattle.base.specs.Lists.{tally};
 ghost use Rattle.transit.specs.Mail.{Mail, messages_in};

@@ -1,5 +1,7 @@
 // A program that writes a made-up pass: `made_up SEED COUNT` writes the log of COUNT records from SEED to standard output. Only the calls
 // that take the arguments and write are here: what is made, what is next and what is said is up to the libraries. Paper 02, change 1.
+#![tactic(auto)]
+
 ghost use Rattle.std.specs.Prelude.{◌≤◌, length};
 ghost use Rattle.made_up_pass.specs.Ending.{Ends};
 ghost use Rattle.made_up_pass.specs.Piece.{piece_room};

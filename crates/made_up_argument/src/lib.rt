@@ -1,17 +1,19 @@
 // An argument of the program that writes a made-up pass: a number in decimal.
+#![tactic(auto)]
+
 ghost use Rattle.std.specs.Prelude.{true, ◌≡◌, ◌-◌, ◌≤◌};
 ghost use Rattle.base.specs.Lists.{every};
 ghost use Rattle.made_up_argument.specs.Argument.{is_digit, number_in, argument_of};
 
 // What an argument says.
-#[derive(Drop)]
+#[derive(Clone, Copy)]
 pub enum Argument {
     Number(u64),
     Wrong(Fault),
 }
 
 // What is wrong with an argument.
-#[derive(Drop)]
+#[derive(Clone, Copy)]
 pub enum Fault {
     // It has another byte than a digit, or none at all.
     NoNumber,

@@ -1,4 +1,6 @@
 // A made-up pass, made piece by piece in one buffer: all that the program decides that writes it. Paper 02, change 1.
+#![tactic(auto)]
+
 ghost use Rattle.std.specs.Prelude.{◌≡◌, ◌≤◌, length};
 ghost use Rattle.made_up_pass.specs.Ending.{next_of, Told, ending_room, ending_words};
 ghost use Rattle.made_up_pass.specs.Piece.{no_piece, refused_piece, piece_from, piece_records, piece_room, Pieced};
@@ -9,7 +11,7 @@ use print_text::put_text;
 
 // Where the program stands with a piece of the pass: the number of the check that refused it or 0, the bytes at the buffer's front, which
 // are to be written, the word that they leave, and how many records are left.
-#[derive(Drop)]
+#[derive(Clone, Copy)]
 pub struct Piece {
     pub number: u8,
     pub bytes: usize,
@@ -80,7 +82,7 @@ pub fn next_piece(piece: Piece, buffer: &mut [u8]) -> Piece
 }
 
 // How the writing of a pass ends.
-#[derive(Drop)]
+#[derive(Clone, Copy)]
 pub enum Ending {
     // All of it is written.
     Whole,
@@ -91,7 +93,7 @@ pub enum Ending {
 }
 
 // What the program does with a piece behind it.
-#[derive(Drop)]
+#[derive(Clone, Copy)]
 pub enum Next {
     // It makes the next piece.
     Again,

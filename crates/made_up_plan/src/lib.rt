@@ -1,4 +1,6 @@
 // What the program that writes a made-up pass does by its arguments: it writes a pass, or says what is wrong with them.
+#![tactic(auto)]
+
 ghost use Rattle.std.specs.Prelude.{◌≡◌};
 ghost use Rattle.made_up_argument.specs.Argument.{argument_of, Within};
 ghost use Rattle.made_up_plan.specs.Plan.{most, pass_of, plan_of};
@@ -12,14 +14,14 @@ pub const SEED_AT: usize = 1;
 pub const COUNT_AT: usize = 2;
 
 // One of the two arguments.
-#[derive(Drop)]
+#[derive(Clone, Copy)]
 pub enum Which {
     Seed,
     Count,
 }
 
 // What is wrong with the arguments.
-#[derive(Drop)]
+#[derive(Clone, Copy)]
 pub enum Problem {
     // There are more than two.
     TooMany,
@@ -28,7 +30,7 @@ pub enum Problem {
 }
 
 // What the program does.
-#[derive(Drop)]
+#[derive(Clone, Copy)]
 pub enum Plan {
     // It writes the pass of a seed and a count of records.
     Pass(u32, u64),

@@ -1,4 +1,6 @@
 // What the program that writes a made-up pass says of its arguments, where something is wrong with them: a line of text.
+#![tactic(auto)]
+
 ghost use Rattle.std.specs.Prelude.{◌+◌, ◌≤◌, length};
 ghost use Rattle.made_up_problem.specs.Words.{name_room, name_words, fault_room, fault_words, problem_room, problem_words};
 ghost use Rattle.print_page.specs.Put.{Put};

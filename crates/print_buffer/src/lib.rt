@@ -1,4 +1,6 @@
 // The buffer that the input is read through. Paper 01, "The printed run": "Input may be of any length, read through at most 65,536 bytes".
+#![tactic(auto)]
+
 ghost use Rattle.std.specs.Prelude.{◌≤◌, length};
 ghost use Rattle.print_buffer.specs.Buffer.{Kept};
 

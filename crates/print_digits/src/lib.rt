@@ -1,4 +1,6 @@
 // A number in decimal, straight onto a page that has room for it. Paper 01, "The printed run".
+#![tactic(auto)]
+
 ghost use Rattle.std.specs.Prelude.{◌+◌, ◌^◌, ◌≤◌, ◌<◌, length};
 ghost use Rattle.print_page.specs.Put.{Put};
 ghost use Rattle.print_page.specs.Text.{decimal, eight_digits, four_digits, two_digits};

@@ -1,4 +1,6 @@
 // How a run ends. Paper 01, "The printed run": "It stops at the log's end without a line for it, or after a 2 or 3".
+#![tactic(auto)]
+
 ghost use Rattle.std.specs.Prelude.{◌++◌, ◌≡◌, ◌+◌, ◌≤◌, length};
 ghost use Rattle.print_page.specs.Put.{Put};
 ghost use Rattle.print_lines.specs.Lines.{record_room, pair_lines, end_line};

@@ -1,4 +1,6 @@
 // The last lines of a run. Paper 01, "The printed run": "Then, for each ordered pair with unread messages .. Then `end`."
+#![tactic(auto)]
+
 ghost use Rattle.std.specs.Prelude.{◌++◌, ◌+◌, ◌<◌, ◌≤◌, length};
 ghost use Rattle.transit.specs.Message.{ranks};
 ghost use Rattle.print_lines.specs.Lines.{lines_of_pair, lines_of_sender, pair_lines, pair_room, end_line};

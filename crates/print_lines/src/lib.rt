@@ -1,4 +1,6 @@
 // The lines of a printed run, straight onto a page that has room for them. Paper 01, "The printed run".
+#![tactic(auto)]
+
 ghost use Rattle.std.specs.Prelude.{◌∷◌, [], ◌+◌, ◌≤◌, length};
 ghost use Rattle.answer.specs.declared.Answer.TheVariants.{Refused};
 ghost use Rattle.print_lines.specs.Lines.{record_line, record_room, pair_line, pair_room, end_line, end_room};

@@ -1,4 +1,6 @@
 // Numbers in decimal, each behind a space, straight onto a page that has room for them. Paper 01, "The printed run".
+#![tactic(auto)]
+
 ghost use Rattle.std.specs.Prelude.{◌∷◌, [], ◌+◌, ◌≤◌, length};
 ghost use Rattle.print_page.specs.Put.{Put};
 ghost use Rattle.print_page.specs.Text.{decimal, numbers, space};

@@ -1,4 +1,6 @@
 // Text straight onto a page that has room for it: single bytes, and a byte in hexadecimal. Paper 01, "The printed run".
+#![tactic(auto)]
+
 ghost use Rattle.std.specs.Prelude.{◌≡◌, ◌∷◌, [], ◌+◌, ◌≤◌, ◌<◌, length};
 ghost use Rattle.print_page.specs.Put.{Put};
 ghost use Rattle.print_page.specs.Text.{digit, hex, space};

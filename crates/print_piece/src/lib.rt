@@ -1,4 +1,6 @@
 // A piece of the input is run over the working arrays. Paper 01, "The printed run".
+#![tactic(auto)]
+
 ghost use Rattle.std.specs.Prelude.{◌+◌, ◌<◌, ◌^◌, length};
 ghost use Rattle.desk.specs.Desk.{desk_of, Desk};
 ghost use Rattle.print_piece.specs.Ran.{RanSome, Stops};
@@ -11,7 +13,7 @@ use settle::settle;
 use transit::{Contents, Slots};
 
 // Why a run of a piece stops.
-#[derive(Drop)]
+#[derive(Clone, Copy)]
 pub enum Stop {
     // The page has no room for another line.
     PageFull,
@@ -22,7 +24,7 @@ pub enum Stop {
 }
 
 // Where a run of a piece stopped: its position in the piece, how much of the page is used, how many records were run, and why.
-#[derive(Drop)]
+#[derive(Clone, Copy)]
 pub struct Stopped {
     pub at: usize,
     pub used: usize,

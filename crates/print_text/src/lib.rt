@@ -1,4 +1,6 @@
 // A text that is given, byte by byte onto a page that has room for it.
+#![tactic(auto)]
+
 ghost use Rattle.std.specs.Prelude.{◌+◌, ◌≤◌, length};
 ghost use Rattle.print_page.specs.Put.{Put};
 

@@ -1,5 +1,7 @@
 // A turn of a program that reads its input through a buffer and writes what a page shows: only the two calls are outside.
 // Paper 01, "The printed run".
+#![tactic(auto)]
+
 ghost use Rattle.std.specs.Prelude.{◌≡◌, ◌≤◌, length};
 ghost use Rattle.desk.specs.Desk.{desk_of, Desk};
 ghost use Rattle.print_last.specs.Last.{ending_room};
@@ -12,7 +14,7 @@ use roster::Roster;
 use transit::{Contents, Slots};
 
 // What a program does when it has written what the page shows.
-#[derive(Drop)]
+#[derive(Clone, Copy)]
 pub enum Next {
     // Another turn: the page had no room for more.
     Again,
@@ -26,7 +28,7 @@ pub enum Next {
 
 // What a turn comes to: how many bytes are held at the buffer's front, where they begin in the input, how much of the page is used, and
 // what is next.
-#[derive(Drop)]
+#[derive(Clone, Copy)]
 pub struct Turned {
     pub held: usize,
     pub base: u64,

@@ -1,4 +1,6 @@
 // The entries that users call, each behind a function that does nothing but call it and says in full what it promises.
+#![tactic(auto)]
+
 ghost use Rattle.std.specs.Prelude.{true, List, [], ◌≡◌, ◌+◌, ◌^◌, ◌<◌, ◌≤◌, length, take, replicate};
 ghost use Rattle.answer.specs.Answer.{number, NeverEighteen};
 ghost use Rattle.answer.specs.declared.Answer.TheVariants.{Refused};

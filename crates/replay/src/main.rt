@@ -1,5 +1,7 @@
 // Prints the run of the log on standard input. The calls that read and write are here, and what is done with them is up to the libraries:
 // what to hand over, whether to read on, whether to stop and what to say. Paper 01, "The printed run".
+#![tactic(auto)]
+
 use libc::{STDERR_FILENO, STDIN_FILENO, STDOUT_FILENO};
 use replay_course::take_turn;
 use replay_stage::words::words;

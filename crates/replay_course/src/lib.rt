@@ -1,4 +1,6 @@
 // A turn of the program `replay`, and where it leaves the program. Paper 01, "The printed run".
+#![tactic(auto)]
+
 ghost use Rattle.std.specs.Prelude.{◌≤◌, length};
 ghost use Rattle.desk.specs.Desk.{desk_of, Desk};
 ghost use Rattle.print_last.specs.Last.{ending_room};

@@ -1,5 +1,7 @@
 // Where the program `replay` stands, and what it decides by what its calls gave: what a read means, what is next behind a turn and behind a
 // write, and what it says as it ends. Paper 01, "The printed run".
+#![tactic(auto)]
+
 ghost use Rattle.std.specs.Prelude.{◌≡◌, ◌+◌, ◌≤◌, ◌<◌, length};
 ghost use Rattle.print_turn.specs.Turn.{buffer_room};
 ghost use Rattle.replay_stage.specs.Stage.{begins, given_of, taken_in, then_of, after_write};
@@ -9,7 +11,7 @@ use print_turn::Next;
 pub mod words;
 
 // How the program ends.
-#[derive(Drop)]
+#[derive(Clone, Copy)]
 pub enum Ending {
     // The run is over.
     Over,
@@ -22,7 +24,7 @@ pub enum Ending {
 }
 
 // What the program does next.
-#[derive(Drop)]
+#[derive(Clone, Copy)]
 pub enum Then {
     // It takes a turn, and writes what the page shows.
     Turn,
@@ -34,7 +36,7 @@ pub enum Then {
 
 // Where the program stands: how many bytes are held at the buffer's front, where they begin in the input, whether the input is at its
 // end, how much of the page is used, and what is next.
-#[derive(Drop)]
+#[derive(Clone, Copy)]
 pub struct Stage {
     pub held: usize,
     pub base: u64,
@@ -44,7 +46,7 @@ pub struct Stage {
 }
 
 // What a read of the input gave.
-#[derive(Drop)]
+#[derive(Clone, Copy)]
 pub enum Given {
     // It failed.
     Failed,

@@ -1,6 +1,8 @@
 // What is known of the ranks in a run: standing, call, table, line and await towards each other rank, and the numbers drawn on hosts,
 // in one array of numbers that is lent, behind typed reads and stores. Paper 01, "Names and places".
 // Past a column's end a read gives what a fresh desk has, and a store changes nothing.
+#![tactic(auto)]
+
 ghost use Rattle.std.specs.Prelude.{◌≡◌};
 ghost use Rattle.broker.specs.State.{cell};
 

@@ -1,4 +1,6 @@
 // All links of a rank: how many awaits it has, and whether it has no line. Paper 01, "Names and places".
+#![tactic(auto)]
+
 ghost use Rattle.std.specs.Prelude.{◌≡◌};
 ghost use Rattle.broker.specs.State.{awaits_of, link_at};
 ghost use Rattle.broker.specs.Names.{is_closed};

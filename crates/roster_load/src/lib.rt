@@ -1,5 +1,7 @@
 // Between the two forms of one state: a roster cleared, loaded from a state by value, and unloaded into one.
 // Paper 01, "Where each language form goes": the tables by value go row by row, a row an array of sixteen.
+#![tactic(auto)]
+
 ghost use Rattle.std.specs.Prelude.{◌≡◌, ◌<◌};
 ghost use Rattle.transit.specs.Message.{ranks};
 ghost use Rattle.transit.specs.Unread.{nothing};

@@ -1,4 +1,6 @@
 // The numbers of a roster, and what each stands for: standings, calls, table entries, links. Paper 01, "Names and places".
+#![tactic(auto)]
+
 ghost use Rattle.std.specs.Prelude.{◌≡◌, ◌<◌};
 ghost use Rattle.roster.specs.Numbers.{vmid_of, status_of, request_of, line_of, await_of, link_of, drawn_of};
 

@@ -1,4 +1,6 @@
 // What is known of a rank, read at any rank or host. Paper 01, "Names and places".
+#![tactic(auto)]
+
 ghost use Rattle.std.specs.Prelude.{◌≡◌};
 ghost use Rattle.broker.specs.State.{status, request, location, link_at, drawn_on};
 ghost use Rattle.roster.specs.Roster.{ranks_of, Whole};

@@ -1,5 +1,7 @@
 // What is known of a rank, changed: one standing, call, table entry, link or count of numbers, and nothing else.
 // Paper 01, "Names and places".
+#![tactic(auto)]
+
 ghost use Rattle.std.specs.Prelude.{set};
 ghost use Rattle.broker.specs.State.{connect, await, cell, set_link, with_status, with_request, with_locations, with_links, with_drawn};
 ghost use Rattle.protocol.specs.Connect.{connect_both};

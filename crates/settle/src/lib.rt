@@ -1,4 +1,6 @@
 // A record judged, and applied only where it passes. Paper 01, "The step log" and "Where each step is checked".
+#![tactic(auto)]
+
 ghost use Rattle.desk.specs.Desk.{Desk};
 ghost use Rattle.settle.specs.Settles.{Settles};
 

@@ -1,4 +1,6 @@
 // What a record does that passed its checks, by its kind. Paper 01, "The step log".
+#![tactic(auto)]
+
 ghost use Rattle.std.proofs.Math.Option.{none};
 ghost use Rattle.std.specs.Prelude.{◌≡◌};
 ghost use Rattle.protocol.specs.Checks.{refusal};

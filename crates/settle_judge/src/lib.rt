@@ -1,4 +1,6 @@
 // The verdict on a record, by its kind: the first check that applies. Paper 01, "Where each step is checked".
+#![tactic(auto)]
+
 ghost use Rattle.desk.specs.Desk.{desk_of, Desk, Judges};
 
 use record::Record;

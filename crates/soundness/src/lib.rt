@@ -1,6 +1,8 @@
 // The test of soundness: one pass over the ranks, one over the pairs of ranks, one over the messages. Paper 01, "Sound states".
 // The parts have crates of their own. There, tests of small values are joined by `&` and `|`, which evaluate both sides: that costs less
 // than a jump.
+#![tactic(auto)]
+
 ghost use Rattle.std.specs.Prelude.{◌≡◌};
 ghost use Rattle.protocol.specs.Sound.{sound};
 ghost use Rattle.broker.specs.State.{view};

@@ -1,5 +1,7 @@
 // The unread messages in order of sending: each by its sender and its receiver, and each after the last of its pair. Paper 01, "Sound
 // states"; paper 02, change 4.
+#![tactic(auto)]
+
 ghost use Rattle.std.specs.Prelude.{◌≡◌};
 ghost use Rattle.transit.specs.Unread.{unread_of};
 ghost use Rattle.soundness_messages.specs.Messages.{messages_sound};

@@ -1,4 +1,6 @@
 // Vmids: drawn on their hosts, and each of one process only.
+#![tactic(auto)]
+
 ghost use Rattle.std.specs.Prelude.{◌≡◌, not};
 ghost use Rattle.base.specs.Lists.{every};
 ghost use Rattle.broker.specs.Names.{processes_of, same_vmid};

@@ -1,4 +1,6 @@
 // The pairs of ranks, row after row: what each rank holds towards each.
+#![tactic(auto)]
+
 ghost use Rattle.std.specs.Prelude.{◌≡◌};
 ghost use Rattle.soundness_pairs.specs.Pairs.{
   location_fits,

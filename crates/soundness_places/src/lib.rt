@@ -1,4 +1,6 @@
 // One unread message by itself: who it is from and to, and where it is. Paper 01, "Sound states".
+#![tactic(auto)]
+
 ghost use Rattle.std.specs.Prelude.{◌≡◌};
 ghost use Rattle.protocol.specs.Laws.Sound.{is_named};
 ghost use Rattle.soundness_places.specs.Places.{place_fits, message_fits};

@@ -1,4 +1,6 @@
 // The ranks one by one: vmids in use and in requests, and that nobody deals with itself.
+#![tactic(auto)]
+
 ghost use Rattle.std.specs.Prelude.{◌≡◌};
 ghost use Rattle.soundness_ranks.specs.Ranks.{request_drawn, nothing_with_self, rank_sound, ranks_sound};
 

@@ -1,4 +1,6 @@
 // A step of the log: the record at a position is decoded, checked and applied. Paper 01, "The step log" and "Where each step is checked".
+#![tactic(auto)]
+
 ghost use Rattle.std.specs.Prelude.{◌≡◌};
 ghost use Rattle.answer.specs.Answer.{NeverEighteen};
 ghost use Rattle.broker.specs.State.{view};
@@ -13,7 +15,7 @@ use steps_load::{load, unload};
 use transit::{CONTENTS_LENGTH, SLOTS_LENGTH};
 
 // All of a step's outcome: the state afterwards, the answer, and the next position.
-#[derive(Drop)]
+#[derive(Clone, Copy)]
 pub struct Outcome {
     pub broker: Broker,
     pub answer: Answer,

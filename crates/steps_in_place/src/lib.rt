@@ -1,4 +1,6 @@
 // A step in place: for those who get one record at a time and keep the working arrays between steps.
+#![tactic(auto)]
+
 ghost use Rattle.answer.specs.Answer.{NeverEighteen};
 ghost use Rattle.desk.specs.Desk.{Desk};
 ghost use Rattle.steps_in_place.specs.InPlace.{StepsInPlace};
@@ -11,7 +13,7 @@ use settle::settle;
 use transit::{Contents, Slots};
 
 // What a step of a lent state gives: the answer, and the next position.
-#[derive(Drop)]
+#[derive(Clone, Copy)]
 pub struct Reply {
     pub answer: Answer,
     pub next: usize,

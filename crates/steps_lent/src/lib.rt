@@ -1,5 +1,7 @@
 // A step of a lent state: the state is changed in place. Paper 01, "Where each step is checked": "A refusal leaves the state lent for a
 // step unchanged".
+#![tactic(auto)]
+
 ghost use Rattle.std.specs.Prelude.{◌≡◌};
 ghost use Rattle.answer.specs.Answer.{NeverEighteen};
 ghost use Rattle.broker.specs.State.{view};

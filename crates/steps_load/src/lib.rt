@@ -1,4 +1,6 @@
 // Between the two forms of one state: the plain one, which is handed over, tested and saved, and the arrays, on which a run works.
+#![tactic(auto)]
+
 ghost use Rattle.std.specs.Prelude.{◌≡◌, length};
 ghost use Rattle.transit.specs.Columns.{slots_length, contents_length};
 ghost use Rattle.broker.specs.State.{view, fresh};

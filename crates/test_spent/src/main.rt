@@ -1,6 +1,8 @@
 // A program that hands in states to which only a log of some 43 billion bytes leads: rank 0 has sent rank 1 all but one of 4,294,967,295
 // messages; and every pair has sent all of them, where each other check of a send applies too. Paper 02, change 4: "28 for a send when the
 // pair has already sent 4,294,967,295, tested after 25".
+#![tactic(auto)]
+
 use answer::Values;
 use broker::state::Broker;
 use libc::STDOUT_FILENO;

@@ -1,5 +1,7 @@
 // Builds the states that standard input lists and hands each to a step. For each it prints a line: its name, and whether the step finds it
 // sound. The head of the list, the file `stdin`, explains its lines.
+#![tactic(auto)]
+
 mod change;
 mod number;
 mod part;

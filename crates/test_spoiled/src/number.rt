@@ -15,7 +15,7 @@ fn with_digit(n: u64, byte: u8) -> u64 {
 }
 
 // A line as far as it is read: the number of the word that was read last, the first being 0, and the words after it as numbers.
-#[derive(Drop)]
+#[derive(Clone, Copy)]
 struct Reading {
     word: usize,
     numbers: [u64; 5],

@@ -1,6 +1,6 @@
 // The first word of a line.
 
-#[derive(Drop)]
+#[derive(Clone, Copy)]
 pub enum Word {
     Fresh,
     Running,

@@ -1,6 +1,8 @@
 // Makes one call of the library many times on one state, so that its time can be measured. Standard input has a byte that says which call,
 // four bytes, least significant first, that say how often, and a log that leads from the fresh state to the one that is used. What the
 // calls answered is added up and printed, so that none of them can be left out.
+#![tactic(auto)]
+
 ghost use Rattle.std.specs.Prelude.{◌≡◌};
 ghost use Rattle.answer.specs.Answer.{NeverEighteen};
 ghost use Rattle.broker.specs.State.{view};

@@ -1,5 +1,7 @@
 // A program that prints the first draws from two seeds: the words after them are known from outside, from Marsaglia's paper and from other
 // programs of the same generator.
+#![tactic(auto)]
+
 use generator_draw::draw;
 use libc::STDOUT_FILENO;
 

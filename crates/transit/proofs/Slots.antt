@@ -14,7 +14,7 @@ use Rattle.transit.specs.declared.Transit.{Transit}
 
 -- An owned `Transit` has 1,024 slots.
 pub slots : (t : Transit) (vs : List Val) → Is (Struct.Declared.row the_type) t vs → length t.messages ≡ 1024
-slots t vs good = rw length-map at good.1.1.0.1.0.1
+slots t vs good = good.1.1.0.1.0.1
 
 -- What a read past the slots would give.
 abbrev pub blank : Message

@@ -1,6 +1,8 @@
 // The unread messages of a broker: one list in order of sending, each message with its place and its running number.
 // Paper 01: "The places of messages are kept by a lower part that knows no step kinds." This crate has its
 // types, definitions and laws, and the crates named after it its routines.
+#![tactic(auto)]
+
 ghost use Rattle.std.specs.Prelude.{◌≡◌};
 ghost use Rattle.transit.specs.Message.{message, place_number};
 ghost use Rattle.transit.specs.Unread.{unread_of, nothing};
@@ -9,7 +11,7 @@ pub mod layout;
 pub mod pick;
 
 // The number by which processes are named at the upper of the two levels of name.
-#[derive(Drop)]
+#[derive(Clone, Copy)]
 pub struct Rank(pub u8);
 
 // Paper 01: "Ranks are 0 to 15."
@@ -34,7 +36,7 @@ pub type Value = u32;
 pub type Sequence = u32;
 
 // Where an unread message is held: paper 01's places 0 to 3, in this order.
-#[derive(Drop)]
+#[derive(Clone, Copy)]
 pub enum Place {
     // 0, the mover's list: already read from the channel by the source process of a migration.
     SourceList,
@@ -48,7 +50,7 @@ pub enum Place {
 
 // An unread message. Its running number is paper 02's, change 4: "The number of a message within its ordered pair, from 1 in order of
 // sending, is now kept with the message".
-#[derive(Drop)]
+#[derive(Clone, Copy)]
 pub struct Message {
     pub sender: Rank,
     pub receiver: Rank,
@@ -58,7 +60,7 @@ pub struct Message {
 }
 
 // Which messages a routine is about.
-#[derive(Drop)]
+#[derive(Clone, Copy)]
 pub enum Selection {
     To(Rank),
     ToAt(Rank, Place),
@@ -67,7 +69,7 @@ pub enum Selection {
 }
 
 // What a search finds.
-#[derive(Drop)]
+#[derive(Clone, Copy)]
 pub enum Found {
     First(Message),
     Nothing,
@@ -75,7 +77,7 @@ pub enum Found {
 
 // The messages as they are handed over and saved: in the first `count` slots, in order of sending. The other slots mean nothing. And how
 // many messages each ordered pair has sent, row after row.
-#[derive(Drop)]
+#[derive(Clone, Copy)]
 pub struct Transit {
     pub messages: [Message; Transit::LIMIT],
     pub count: usize,

@@ -6,7 +6,7 @@ use crate::Count;
 use crate::layout::ROW;
 
 // The slots of a pair number from `low` up to `high` that are to `receiver`, at the place of a number.
-#[derive(Drop)]
+#[derive(Clone, Copy)]
 pub struct Pick {
     pub low: u16,
     pub high: u16,

@@ -1,4 +1,6 @@
 // A message sent: it stands behind all others, with the next number of its pair.
+#![tactic(auto)]
+
 ghost use Rattle.std.specs.Prelude.{◌<◌, length};
 ghost use Rattle.transit.specs.Columns.{sent_in};
 ghost use Rattle.transit.specs.Mail.{Mail, messages_in, Appended, Roomy};

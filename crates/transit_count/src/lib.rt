@@ -1,4 +1,6 @@
 // How many messages are unread: in all, of a pair, and of a pair at a place.
+#![tactic(auto)]
+
 ghost use Rattle.std.specs.Prelude.{List, ◌≡◌, ℕ, ◌<◌, length};
 ghost use Rattle.transit.specs.Columns.{columns_of, SLOTS};
 ghost use Rattle.base.specs.Lists.{tally};

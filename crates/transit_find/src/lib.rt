@@ -1,4 +1,6 @@
 // The message of a pair at a place, and the message to a receiver, that was sent first.
+#![tactic(auto)]
+
 ghost use Rattle.std.specs.Prelude.{◌≡◌, ◌<◌};
 ghost use Rattle.transit.specs.Columns.{columns_of};
 ghost use Rattle.transit.specs.Mail.{Mail, unread_in};

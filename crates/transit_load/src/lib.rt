@@ -1,4 +1,6 @@
 // The messages go between the two forms: a `Transit`, which is handed over and saved, and the slots, which a run works on.
+#![tactic(auto)]
+
 ghost use Rattle.std.specs.Prelude.{true, List, [], ◌≡◌, ℕ, ◌≤◌, length};
 ghost use Rattle.base.specs.Lists.{every};
 ghost use Rattle.transit.specs.Columns.{sent_in, slots_length, contents_length};

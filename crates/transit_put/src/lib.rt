@@ -1,4 +1,6 @@
 // A message put at the tail of the slots.
+#![tactic(auto)]
+
 ghost use Rattle.std.specs.Prelude.{◌≡◌, ◌<◌, ◌+◌, length};
 ghost use Rattle.transit.specs.Columns.{columns_of, SLOTS};
 ghost use Rattle.transit.specs.Mail.{Mail, messages_in, Put};

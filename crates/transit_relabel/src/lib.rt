@@ -1,4 +1,6 @@
 // Changes of places. Nothing is reordered, and nothing but the place changes.
+#![tactic(auto)]
+
 ghost use Rattle.std.specs.Prelude.{List, ◌≡◌, ℕ, ◌<◌, length};
 ghost use Rattle.transit.specs.Columns.{SLOTS, slots_length};
 ghost use Rattle.transit.specs.Mail.{Mail, Relabelled, FirstRelabelled};

@@ -1,4 +1,6 @@
 // A message taken: the first of its pair leaves.
+#![tactic(auto)]
+
 ghost use Rattle.std.specs.Prelude.{◌<◌};
 ghost use Rattle.base.specs.Lists.{tally};
 ghost use Rattle.transit.specs.Mail.{Mail, messages_in, Left};
@@ -8,7 +10,7 @@ use transit::layout::{COUNT, DEAD, FIRST, NEXT, PLACES, SEQUENCES, UNREAD, messa
 use transit::{Contents, Count, Message, Rank, Slots};
 
 // The message that left, and how many of its pair are left.
-#[derive(Drop)]
+#[derive(Clone, Copy)]
 pub struct Removed {
     pub message: Message,
     pub left: Count,

@@ -1,4 +1,6 @@
 // A walk along a pair's links.
+#![tactic(auto)]
+
 ghost use Rattle.std.specs.Prelude.{◌<◌};
 ghost use Rattle.transit.specs.Columns.{columns_of};
 ghost use Rattle.transit.specs.Index.{Index};

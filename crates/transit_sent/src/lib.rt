@@ -1,4 +1,6 @@
 // How many messages each pair has sent: read, kept and handed over. Paper 02, change 4.
+#![tactic(auto)]
+
 ghost use Rattle.std.specs.Prelude.{◌≡◌, ◌<◌, length};
 ghost use Rattle.transit.specs.Columns.{sent_in, contents_length};
 ghost use Rattle.transit.specs.Message.{ranks};

@@ -1,4 +1,6 @@
 // Checks in turn: the first that fails decides. And the checks on names and standing, which most kinds share.
+#![tactic(auto)]
+
 ghost use Rattle.std.specs.Prelude.{◌≡◌};
 ghost use Rattle.verdict.specs.Tests.{one_tests, two_tests, running_tests, migrating_tests};
 ghost use Rattle.verdict.specs.Verdict.{verdict_of, or_else, passed, judged};
@@ -11,7 +13,7 @@ use transit::Rank;
 pub mod names;
 pub mod unread;
 
-#[derive(Drop)]
+#[derive(Clone, Copy)]
 pub enum Verdict {
     Passed,
     Failed(Refusal),
