@@ -4,8 +4,8 @@
 usage: tools/snake_names.py          at the top of the repository: rewrites crates/, docs/ and README.md in place
        tools/snake_names.py --names  prints each old name and its new one, and changes nothing
 
-An own name is one that a file of crates/*/specs or a lemma file of crates/*/proofs declares: `columnsOf` becomes `columns_of`, and
-`walk-on` becomes `walk_on`; a law with a definition's name gets `_lem`. Names of src/, types, modules and what the check makes keep theirs. In a comment, in an edit's remark and on a
+An own name is one that a file of crates/*/specs or a lemma file of crates/*/proofs declares or binds: `columnsOf` becomes `columns_of`,
+and `walk-on` becomes `walk_on`; a law with a definition's name gets `_lem`. Names of src/, types, modules and what the check makes keep theirs. In a comment, in an edit's remark and on a
 page, a name is turned only where it stands between backquotes. It stops where two names would fall together in one file.
 """
 
@@ -46,15 +46,25 @@ def snake(name):
     return name.replace("-", "_")
 
 
+def local_names(text):
+    """What a file has with a dash or in camel case, and imports from nowhere else: its declarations, and what they bind."""
+    code = "\n".join(line.split("-- ")[0] for line in text.split("\n"))
+    found = set(re.findall(r"(?<![\w'\-.◌])" + WORD + r"(?![\w.'\-◌])", code))
+    return {n for n in found if snake(n) != n and n[0].islower()} - foreign_names(text)
+
+
 def own_names():
     found = set()
     for path in files("crates", ".antt"):
         if not is_lemma_file(path):
             continue
-        for line in read(path).split("\n"):
+        text = read(path)
+        for line in text.split("\n"):
             m = NAMES.match(line.split("-- ")[0])
             if m:
                 found |= set(m.group(1).split()) - KEYWORDS
+        if "Lending" not in path:
+            found |= local_names(text)
     names = {n: snake(n) for n in found if snake(n) != n and (n[0].islower() or "-" in n)}
     words = {new for old, new in names.items() if "-" not in old}
     laws = {old: new + "_lem" for old, new in names.items() if "-" in old and new in words}

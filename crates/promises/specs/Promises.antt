@@ -267,10 +267,10 @@ pub record OrderingClaim (xs : List Reading) (end : State) : Type 0 where
   -- Paper 02, change 4: "the numbers taken by a pair are 1, 2, 3 without a gap as far as taken"; with those of the unread behind them they
   -- are 1 to "the count sent", which is that of the accepted sends
   pub running_numbers : (a b : Rank) → a.0 < 16 → b.0 < 16 →
-      let numbers-taken = map (λ (e : Entry). e.v3) (select (is_take a b) (accepted fresh xs)) in
-      let numbers-unread = map (λ (m : Message). m.sequence) (place_order (Between a b) (messages end)) in
-      (numbers-taken ≡ up_from 1 (length (taken a b (accepted fresh xs)))) ×
-      (numbers-taken ++ numbers-unread ≡ up_from 1 (sent_between a b end)) ×
+      let numbers_taken_lem = map (λ (e : Entry). e.v3) (select (is_take a b) (accepted fresh xs)) in
+      let numbers_unread_lem = map (λ (m : Message). m.sequence) (place_order (Between a b) (messages end)) in
+      (numbers_taken_lem ≡ up_from 1 (length (taken a b (accepted fresh xs)))) ×
+      (numbers_taken_lem ++ numbers_unread_lem ≡ up_from 1 (sent_between a b end)) ×
       (sent_between a b end ≡ length (sent a b (accepted fresh xs)))
 
 -- Over every list of steps: each reads any log at any position.
@@ -376,11 +376,11 @@ what_going_by_looks_is r named es = (
 -- and all that is unread by it was sent since: its number is above those that its pair had sent.
 pub nobody_starves : (r : Rank) (xs : List Reading) (s : State) → sound s ≡ true → goes_by_looks r none (accepted s xs) ≡ true →
     let took = letters_taken r (accepted s xs) in
-    let unread-at-the-start = select (to r) (map letter (messages s)) in
+    let unread_at_the_start = select (to r) (map letter (messages s)) in
     (took ++ select (to r) (map letter (messages (after s xs))) ≡
-    unread-at-the-start ++ select (to r) (letters_sent s.unread.sent (accepted s xs))) ×
+    unread_at_the_start ++ select (to r) (letters_sent s.unread.sent (accepted s xs))) ×
     (tally (to r) (messages s) ≤ length took →
-    (ListN.take (tally (to r) (messages s)) took ≡ unread-at-the-start) ×
+    (ListN.take (tally (to r) (messages s)) took ≡ unread_at_the_start) ×
     (every (λ (m : Message). ltb (sent_between m.sender r s) m.sequence) (select (to r) (messages (after s xs))) ≡ true))
 nobody_starves r xs s ok goes =
     let claim = served r xs s ok goes in
@@ -694,8 +694,8 @@ module _ {at : Stage} {s : State} {buffer page : List ℕ} (runs : Runs at s buf
       let end = leaves over.runs in
       (over.read, over.written, over.prints, end.0, end.1, end.2, end.3)
 
-  pub replay-stops-at-2^63 : at.then ≡ Then.Stop Ending.TooLong → 9223372036854775808 ≤ at.base
-  replay-stops-at-2^63 = runs_too_long runs
+  pub replay_stops_at_2^63 : at.then ≡ Then.Stop Ending.TooLong → 9223372036854775808 ≤ at.base
+  replay_stops_at_2^63 = runs_too_long runs
 
 -- Paper 02, change 1.
 

@@ -8,14 +8,14 @@ use mir.Syntax.{w16}
 use mir.Val.{Val}
 use denote.Laws.{Is}
 use denote.Struct
-use Rattle.broker.specs.contracts.state.Broker.{the_type as the-broker}
+use Rattle.broker.specs.contracts.state.Broker.{the_type as the_broker}
 use Rattle.broker.specs.State.{view}
 use Rattle.broker.specs.declared.state.Broker.{Broker}
 use Rattle.soundness_messages.proofs.Held.{held_count}
 use Rattle.soundness.specs.Laws.Sound.{Typed}
 
 -- The arrays have their lengths, and each number drawn fits sixteen bits.
-pub typed : (broker : Broker) (vs : List Val) → Is (Struct.Declared.row the-broker) broker vs → Typed (view broker)
+pub typed : (broker : Broker) (vs : List Val) → Is (Struct.Declared.row the_broker) broker vs → Typed (view broker)
 typed broker vs good =
     let fields = good.1.1 in
     let drawn = fields.1.1.1.0 in

@@ -142,11 +142,11 @@ module _ (r : Rank) where
     others_serve : (x : Record) → refusal s x ≡ none → is_look_of r (entry x s) ≡ false → is_take_of r (entry x s) ≡ false →
         Serves (apply x s).state es end → Serves s (entry x s ∷ es) end
     unfolding Serves
-    others_serve x p no-look no-take rest named first goes =
+    others_serve x p no_look no_take rest named first goes =
         let new = select (to r) (posted s.unread.sent x) in
-        let there = others_leave s h x p no-take in
-        rw (no-take, select_append (to r) (posted s.unread.sent x) (letters_sent (counts_after s.unread.sent x) es))
-        (rest named (stays_first named s (apply x s).state new there first) (rw (no-look, no-take) at goes) ∙
+        let there = others_leave s h x p no_take in
+        rw (no_take, select_append (to r) (posted s.unread.sent x) (letters_sent (counts_after s.unread.sent x) es))
+        (rest named (stays_first named s (apply x s).state new there first) (rw (no_look, no_take) at goes) ∙
         ap (λ (l : List Message). l ++ sent_to es (apply x s).state.unread.sent) there ∙
         append_assoc (unread_by s) new (sent_to es (apply x s).state.unread.sent) ∙
         ap (λ (c : List ℕ). unread_by s ++ (new ++ sent_to es c)) (sym (step_counts s x h p)))

@@ -22,6 +22,6 @@ module _ (a b : Rank) (known : State) {slots contents slots' : List ℕ} where
       done (with_unread (unread_in slots' contents) known) m.value rest m.sequence ≡
       take b a (with_unread (unread_in slots contents) known)
   unfolding take
-  take_done x in-a in_b some ok =
+  take_done x in_a in_b some ok =
       let s = with_unread (unread_in slots contents) known in
-      rw (left_unread x some ((facts s ok).mail.places_rise_lem a b in-a in_b), x.pair)
+      rw (left_unread x some ((facts s ok).mail.places_rise_lem a b in_a in_b), x.pair)

@@ -33,7 +33,7 @@ use Rattle.ordering.specs.Laws.Runs.{entry, taken_cons, five_cons, carried_enter
 -- a list of accepted steps from q, where a move of the given rank is open: its moves are unbroken, its steps of the five kinds and its
 -- takes are these, it ends quiet, with this core, and its logs are bytes where the first list's are
 pub record Following
-    (inBytes : Bool)
+    (in_bytes : Bool)
     (moving : Option Rank)
     (q : State)
     (five : List Record)
@@ -41,7 +41,7 @@ pub record Following
     (c : Core)
     : Type 0 where
   pub list : List Reading
-  pub bytes : inBytes ≡ true → are_bytes list ≡ true
+  pub bytes : in_bytes ≡ true → are_bytes list ≡ true
   pub all_accepted : every_accepted q list ≡ true
   pub moves_unbroken : unbroken moving (records (accepted q list)) ≡ true
   pub same_five : five_kinds (accepted q list) ≡ five
@@ -50,8 +50,8 @@ pub record Following
   pub ends_alike : core (after q list) ≡ c
 
 -- No steps.
-pub nothing_follows : (inBytes : Bool) (q : State) → Quiet q → Following inBytes none q [] (λ a b. []) (core q)
-nothing_follows inBytes q quiet =
+pub nothing_follows : (in_bytes : Bool) (q : State) → Quiet q → Following in_bytes none q [] (λ a b. []) (core q)
+nothing_follows in_bytes q quiet =
     record {
       list = [];
       bytes = λ t. refl;
@@ -65,10 +65,10 @@ nothing_follows inBytes q quiet =
 
 -- The same list where its takes are named in another way.
 pub follows_as :
-    {inBytes : Bool} {moving : Option Rank} {q : State} {five : List Record} {takes takes' : Rank → Rank → List ℕ} {c : Core} →
+    {in_bytes : Bool} {moving : Option Rank} {q : State} {five : List Record} {takes takes' : Rank → Rank → List ℕ} {c : Core} →
     ((a b : Rank) → takes a b ≡ takes' a b) →
-    Following inBytes moving q five takes c →
-    Following inBytes moving q five takes' c
+    Following in_bytes moving q five takes c →
+    Following in_bytes moving q five takes' c
 follows_as e f =
     record {
       list = f.list;
@@ -87,7 +87,7 @@ Leads moving r then = (l : List Record) → unbroken moving (r ∷ l) ≡ unbrok
 
 -- One accepted step in front.
 module _
-    {inBytes : Bool}
+    {in_bytes : Bool}
     {moving then : Option Rank}
     {five : List Record}
     {takes : Rank → Rank → List ℕ}
@@ -98,14 +98,14 @@ module _
     (next : ℕ)
   where
     pub step_follows :
-        (inBytes ≡ true → is_bytes x ≡ true) →
+        (in_bytes ≡ true → is_bytes x ≡ true) →
         decode x.log x.at ≡ Whole r next →
         sound q ≡ true →
         refusal q r ≡ none →
         Leads moving r then →
-        Following inBytes then (apply r q).state five takes c →
+        Following in_bytes then (apply r q).state five takes c →
         Following
-        inBytes
+        in_bytes
         moving
         q
         (five_kinds (entry r q ∷ []) ++ five)

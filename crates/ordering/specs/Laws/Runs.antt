@@ -55,9 +55,9 @@ module _
 module _
     (P : List Reading → State → List Entry → State → Type 0)
     (no_steps : (s : State) → sound s ≡ true → P [] s [] s)
-    (one-refused :
+    (one_refused :
     (x : Reading) (xs : List Reading) (s : State) (es : List Entry) (end : State) → P xs s es end → P (x ∷ xs) s es end)
-    (one-accepted :
+    (one_accepted :
     (s : State) (x : Reading) (r : Record) (next : ℕ) →
     sound s ≡ true →
     decode x.log x.at ≡ Whole r next →
@@ -77,12 +77,12 @@ module _
         at (turned_away n t) rest =
             let enters : accepted s (x ∷ xs) ≡ accepted s xs = rw t in
             let leaves : after s (x ∷ xs) ≡ after s xs = rw t in
-            subst₂ (P (x ∷ xs) s) (sym enters) (sym leaves) (one-refused x xs s (accepted s xs) (after s xs) (rest s h))
+            subst₂ (P (x ∷ xs) s) (sym enters) (sym leaves) (one_refused x xs s (accepted s xs) (after s xs) (rest s h))
         at (carried_out r k reads p t) rest =
             let next = past_record x.log x.at in
             let s' = (apply r s).state in
             subst₂ (P (x ∷ xs) s) (sym (carried_enters s x xs r next h reads p)) (sym (carried_leaves s x xs r next h reads p))
-            (one-accepted s x r next h reads p xs (accepted s' xs) (after s' xs) (rest s' (sound_kept s r h p)))
+            (one_accepted s x r next h reads p xs (accepted s' xs) (after s' xs) (rest s' (sound_kept s r h p)))
 
 -- The same of the accepted steps alone.
 module _

@@ -55,12 +55,12 @@ stands s q x (Look r) next hs quiet same reads p = nothing_stands s q x (Look r)
 -- bytes, where the readings are
 abbrev Followed : List Reading → State → List Entry → State → Type 0
 Followed xs s es end =
-    (inBytes : Bool) →
-    (inBytes ≡ true → are_bytes xs ≡ true) →
+    (in_bytes : Bool) →
+    (in_bytes ≡ true → are_bytes xs ≡ true) →
     (q : State) →
     Quiet q →
     core q ≡ core s →
-    Following inBytes none q (five_kinds es) (λ a b. taken a b es) (core end)
+    Following in_bytes none q (five_kinds es) (λ a b. taken a b es) (core end)
 
 step_followed :
     (s : State) (x : Reading) (r : Record) (next : ℕ) →
@@ -70,22 +70,22 @@ step_followed :
     (xs : List Reading) (es : List Entry) (end : State) →
     Followed xs (apply r s).state es end →
     Followed (x ∷ xs) s (entry r s ∷ es) end
-step_followed s x r next h reads p xs es end rest inBytes bytes q quiet same =
+step_followed s x r next h reads p xs es end rest in_bytes bytes q quiet same =
     let e = entry r s in
     let now = stands s q x r next h quiet same reads p in
-    let here : inBytes ≡ true → is_bytes x ≡ true = λ t. both_left (is_bytes x) (are_bytes xs) (bytes t) in
-    let later : inBytes ≡ true → are_bytes xs ≡ true = λ t. both_right (is_bytes x) (are_bytes xs) (bytes t) in
+    let here : in_bytes ≡ true → is_bytes x ≡ true = λ t. both_left (is_bytes x) (are_bytes xs) (bytes t) in
+    let later : in_bytes ≡ true → are_bytes xs ≡ true = λ t. both_right (is_bytes x) (are_bytes xs) (bytes t) in
     let same' = now.alike ∙ ap (core_step r) same ∙ sym (core_step_lem s r h p) in
     rw (five_cons e es)
     (follows_as (λ a b. sym (taken_cons a b e es))
-    (now.follows inBytes here (five_kinds es) (λ a b. taken a b es) (core end) (rest inBytes later now.then now.quiet same')))
+    (now.follows in_bytes here (five_kinds es) (λ a b. taken a b es) (core end) (rest in_bytes later now.then now.quiet same')))
 
 -- Every list from a sound state is followed.
 followed : (xs : List Reading) (s : State) → sound s ≡ true → Followed xs s (accepted s xs) (after s xs)
 followed =
     along_readings Followed
-    (λ s h inBytes bytes q quiet same. subst (Following inBytes none q [] (λ a b. [])) same (nothing_follows inBytes q quiet))
-    (λ x xs s es end rest inBytes bytes. rest inBytes (λ t. both_right (is_bytes x) (are_bytes xs) (bytes t)))
+    (λ s h in_bytes bytes q quiet same. subst (Following in_bytes none q [] (λ a b. [])) same (nothing_follows in_bytes q quiet))
+    (λ x xs s es end rest in_bytes bytes. rest in_bytes (λ t. both_right (is_bytes x) (are_bytes xs) (bytes t)))
     step_followed
 
 -- The fresh state is quiet.

@@ -44,9 +44,9 @@ module _ (s : State) (a b : Rank) (v : ℕ) (hs : sound s ≡ true) (p : refusal
     joined : Joined then a b
     alike : core then ≡ core s
     follows :
-        (inBytes : Bool) (five : List Record) (takes : Rank → Rank → List ℕ) (c : Core) →
-        Following inBytes none then five takes c →
-        Following inBytes none x five takes c
+        (in_bytes : Bool) (five : List Record) (takes : Rank → Rank → List ℕ) (c : Core) →
+        Following in_bytes none then five takes c →
+        Following in_bytes none x five takes c
 
   -- One route.
   module _ (x : State) (u : Vmid) (calling : Calling x a b u) (h : sound x ≡ true) (same : core x ≡ core s) where
@@ -68,11 +68,11 @@ module _ (s : State) (a b : Rank) (v : ℕ) (hs : sound s ≡ true) (p : refusal
     routed_alike = core_step_lem x (Route a b) h routes ∙ same
 
     routed_follows :
-        (inBytes : Bool) (five : List Record) (takes : Rank → Rank → List ℕ) (c : Core) →
-        Following inBytes none routed five takes c →
-        Following inBytes none x five takes c
+        (in_bytes : Bool) (five : List Record) (takes : Rank → Rank → List ℕ) (c : Core) →
+        Following in_bytes none routed five takes c →
+        Following in_bytes none x five takes c
     unfolding routed decode record_of
-    routed_follows inBytes five takes c f =
+    routed_follows in_bytes five takes c f =
         step_follows x (of_two Kind.route a b) (Route a b) 3 (λ t. named_in_bytes Kind.route refl) refl h routes (λ l. refl) f
 
     -- A call that is posted to the current end is routed there.
@@ -112,7 +112,7 @@ module _ (s : State) (a b : Rank) (v : ℕ) (hs : sound s ≡ true) (p : refusal
         joined = w.joined;
         alike = w.alike;
         follows =
-            λ inBytes five takes c f. routed_follows x u calling h same inBytes five takes c (w.follows inBytes five takes c f);
+            λ in_bytes five takes c f. routed_follows x u calling h same in_bytes five takes c (w.follows in_bytes five takes c f);
       })
 
   pub send_stands :
@@ -125,25 +125,25 @@ module _ (s : State) (a b : Rank) (v : ℕ) (hs : sound s ≡ true) (p : refusal
   send_stands q x next quiet same reads =
       let calls = call_before s a b v p q (same_standings same) quiet.calm in
       let called = (apply (Call a b) q).state in
-      let called-sound = sound_kept q (Call a b) quiet.is_sound calls in
+      let called_sound = sound_kept q (Call a b) quiet.is_sound calls in
       let calling : Calling called a b (location q a b) = call_calm q a b quiet.calm two.first in
-      let w = way called (location q a b) calling called-sound (core_step_lem q (Call a b) quiet.is_sound calls ∙ same) in
+      let w = way called (location q a b) calling called_sound (core_step_lem q (Call a b) quiet.is_sound calls ∙ same) in
       let sends = send_again s a b v p w.then (same_standings w.alike) w.joined w.alike w.is_sound hs in
       let sent = (apply (Send a b v) w.then).state in
-      let sent-sound = sound_kept w.then (Send a b v) w.is_sound sends in
+      let sent_sound = sound_kept w.then (Send a b v) w.is_sound sends in
       let sent_joined : Joined sent a b = send_calm w.then a b v w.joined in
       let sent_core : core sent ≡ core_step (Send a b v) (core s) =
       core_step_lem w.then (Send a b v) w.is_sound sends ∙ ap (core_step (Send a b v)) w.alike in
       let parts = part_behind s a b v p sent (same_standings sent_core) sent_joined in
       record {
         then = (apply (Part a b) sent).state;
-        quiet = quiet_after sent (Part a b) sent-sound parts (part_calm sent a b sent_joined two.first two.second);
-        alike = core_step_lem sent (Part a b) sent-sound parts ∙ sent_core ∙ ap (core_step (Send a b v)) (sym same);
+        quiet = quiet_after sent (Part a b) sent_sound parts (part_calm sent a b sent_joined two.first two.second);
+        alike = core_step_lem sent (Part a b) sent_sound parts ∙ sent_core ∙ ap (core_step (Send a b v)) (sym same);
         follows =
-            λ inBytes bytes fs ts c f.
+            λ in_bytes bytes fs ts c f.
             step_follows q (of_two Kind.call a b) (Call a b) 3 (λ t. named_in_bytes Kind.call refl) refl quiet.is_sound calls (λ l. refl)
-            (w.follows inBytes (Send a b v ∷ fs) ts c
+            (w.follows in_bytes (Send a b v ∷ fs) ts c
             (step_follows w.then x (Send a b v) next bytes reads w.is_sound sends (λ l. refl)
-            (step_follows sent (of_two Kind.part a b) (Part a b) 3 (λ t. named_in_bytes Kind.part refl) refl sent-sound parts (λ l. refl)
+            (step_follows sent (of_two Kind.part a b) (Part a b) 3 (λ t. named_in_bytes Kind.part refl) refl sent_sound parts (λ l. refl)
             f)));
       }

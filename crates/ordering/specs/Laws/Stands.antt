@@ -52,12 +52,12 @@ pub record Standing (s q : State) (x : Reading) (r : Record) : Type 0 where
   pub quiet : Quiet then
   pub alike : core then ≡ core_step r (core q)
   pub follows :
-      (inBytes : Bool) →
-      (inBytes ≡ true → is_bytes x ≡ true) →
+      (in_bytes : Bool) →
+      (in_bytes ≡ true → is_bytes x ≡ true) →
       (five : List Record) (takes : Rank → Rank → List ℕ) (c : Core) →
-      Following inBytes none then five takes c →
+      Following in_bytes none then five takes c →
       Following
-      inBytes
+      in_bytes
       none
       q
       (five_kinds (entry r s ∷ []) ++ five)
@@ -77,7 +77,7 @@ nothing_stands s q x r quiet same five takes =
       then = q;
       quiet = quiet;
       alike = sym same;
-      follows = λ inBytes bytes fs ts c f. rw five (follows_as (λ a b. rw (takes a b)) f);
+      follows = λ in_bytes bytes fs ts c f. rw five (follows_as (λ a b. rw (takes a b)) f);
     }
 
 -- A state that is calm behind an accepted record is quiet.
@@ -105,7 +105,7 @@ module _ (s q : State) (x : Reading) (next : ℕ) (quiet : Quiet q) (same : core
         quiet = quiet_after q r quiet.is_sound p calm;
         alike = core_step_lem q r quiet.is_sound p;
         follows =
-            λ inBytes bytes fs ts c f.
+            λ in_bytes bytes fs ts c f.
             follows_as (λ a b. ap (λ (l : List ℕ). l ++ ts a b) (takes a b))
             (step_follows q x r next bytes reads quiet.is_sound p leads f);
       }
@@ -162,7 +162,7 @@ module _ (s q : State) (x : Reading) (next : ℕ) (quiet : Quiet q) (same : core
         quiet = quiet_after q' (Land r) h' lands (land_calm q' r moving hr);
         alike = core_step_lem q' (Land r) h' lands ∙ core_step_lem q (Move r h) quiet.is_sound p';
         follows =
-            λ inBytes bytes fs ts c f.
+            λ in_bytes bytes fs ts c f.
             step_follows {then = some r} q x (Move r h) next bytes reads quiet.is_sound p' (λ l. refl)
             (step_follows q' (of_one Kind.land r) (Land r) 2 (λ t. one_is_bytes Kind.land refl r hr) refl h' lands
             (λ l. rw (same_rank_self r)) f);

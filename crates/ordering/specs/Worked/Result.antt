@@ -97,10 +97,10 @@ pub second :
     q.processes ≡ r.processes →
     SecondList xs
 second xs ys r q there here bytes all moves five took holds processes =
-    let same-holds = ap (λ (p : Result). p.holds) here ∙ holds ∙ sym (ap (λ (p : Result). p.holds) there) in
+    let same_holds = ap (λ (p : Result). p.holds) here ∙ holds ∙ sym (ap (λ (p : Result). p.holds) there) in
     let same_values : (a b : Rank) → taken a b q.steps ≡ taken a b r.steps =
     λ a b. rw (← taken_of_takes a b q.steps, took) (taken_of_takes a b r.steps) in
-    let same-processes = ap (λ (p : Result). p.processes) here ∙ processes ∙ sym (ap (λ (p : Result). p.processes) there) in
+    let same_processes = ap (λ (p : Result). p.processes) here ∙ processes ∙ sym (ap (λ (p : Result). p.processes) there) in
     record {
       list = ys;
       bytes = λ first. bytes;
@@ -110,8 +110,8 @@ second xs ys r q there here bytes all moves five took holds processes =
           ap (λ (p : Result). five_kinds p.steps) here ∙ five ∙ sym (ap (λ (p : Result). five_kinds p.steps) there);
       same_taken =
           λ a b. ap (λ (p : Result). taken a b p.steps) here ∙ same_values a b ∙ sym (ap (λ (p : Result). taken a b p.steps) there);
-      same_unread = λ a b ha hb. ap (λ (ms : List Message). map (λ (m : Message). m.value) (place_order (Between a b) ms)) same-holds;
-      same_status = λ r hr. ap (λ (ps : List Process). (get_or ps r.0 idle).status) same-processes;
+      same_unread = λ a b ha hb. ap (λ (ms : List Message). map (λ (m : Message). m.value) (place_order (Between a b) ms)) same_holds;
+      same_status = λ r hr. ap (λ (ps : List Process). (get_or ps r.0 idle).status) same_processes;
     }
 
 -- a record that is a whole log; an accepted record with its v1 and v3; and a process with no call

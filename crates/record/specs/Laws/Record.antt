@@ -43,7 +43,7 @@ kind_most k h = leb-true k (length table) (both_right (leb 1 k) (leb k (length t
 -- A body is the same wherever the same bytes stand.
 pub body_same : (a b : List ℕ) (i j n : ℕ) → i + n ≤ length a → j + n ≤ length b
     → ((k : ℕ) → k < n → get_or a (i + k) 0 ≡ get_or b (j + k) 0) → take n (drop i a) ≡ take n (drop j b)
-body_same a b i j n in-a in_b same =
+body_same a b i j n in_a in_b same =
     let long_a : length (take n (drop i a)) ≡ n = length-take-le n (drop i a) (omega (arith, length-drop i a)) in
     let long_b : length (take n (drop j b)) ≡ n = length-take-le n (drop j b) (omega (arith, length-drop j b)) in
     ext_get_or 0 (take n (drop i a)) (take n (drop j b)) (long_a ∙ sym long_b)

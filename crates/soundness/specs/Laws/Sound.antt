@@ -178,9 +178,9 @@ module _ (s : State) where
       let p = parts (leb s.unread.count limit) (places ∷ numbers_rise s.unread ∷ []) passes in
       let few = leb-true s.unread.count limit p.0 in
       let told = rises_tells message_test not_below pair_of place_index cells (has_cell s.processes s.links) l p.1.0 in
-      let told-too = rises_tells is_named (within s.unread.sent) pair_of (λ m. m.sequence) cells pair_inside l p.1.1.0 in
+      let told_too = rises_tells is_named (within s.unread.sent) pair_of (λ m. m.sequence) cells pair_inside l p.1.1.0 in
       let all = told.0 in
-      let named = told-too.0 in
+      let named = told_too.0 in
       record {
         few = few;
         counted = t.held few;
@@ -190,7 +190,7 @@ module _ (s : State) where
         places_fit_lem = every_wider message_test (fits_place s) (λ m h. both_right (fits_unheeded s m) _ (fits_of m h).1) l all;
         places_rise_lem = λ a b h k. rw (never_falls_lem, pair_is_cell a b k l named) at (told.1 (cell a b) (omega arith));
         numbers_rise_lem = λ a b h k.
-            rw (rises_within_lem 0 (sent_between a b s), pair_is_cell a b k l named) at (told-too.1 (cell a b) (omega arith));
+            rw (rises_within_lem 0 (sent_between a b s), pair_is_cell a b k l named) at (told_too.1 (cell a b) (omega arith));
       }
 
 -- Soundness is the three tests.

@@ -76,10 +76,10 @@ module _ {A : Type 0} (fits : A → Bool) (after : ℕ → ℕ → ℕ → Bool)
     passed last (x ∷ l) long h =
         let fit = both_left (fits x) _ h in
         let first = after (cell_of x) (get_or last (cell_of x) 0) (number_of x) in
-        let rises-on = both_right (fits x) _ h in
-        let rest = passed (next last x) l (long_set n last (cell_of x) (number_of x) long) (both_right first _ rises-on) in
+        let rises_on = both_right (fits x) _ h in
+        let rest = passed (next last x) l (long_set n last (cell_of x) (number_of x) long) (both_right first _ rises_on) in
         let here : (k : ℕ) → above last x k ≡ true =
-        λ k. by_test (eqb (cell_of x) k) (λ e. rw e (rw (eqb-true (cell_of x) k e) at (both_left first _ rises-on))) (λ e. rw e) in
+        λ k. by_test (eqb (cell_of x) k) (λ e. rw e (rw (eqb-true (cell_of x) k e) at (both_left first _ rises_on))) (λ e. rw e) in
         (both fit rest.0, λ k. rw (sorted_step last x l k long fit) (both (here k) (rest.1 k)))
 
     -- Where each element fits and the numbers of each cell come in turn, the pass goes through.

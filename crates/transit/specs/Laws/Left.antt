@@ -33,15 +33,15 @@ without_first s p =
     let at = get_or s (FIRST + p) 0 in
     set (set (set (set s at DEAD) (FIRST + p) (get_or s (NEXT + at) 0)) (COUNT + p) (get_or s (COUNT + p) 0 - 1)) UNREAD (get_or s UNREAD 0 - 1)
 
-module _ {s v : List ℕ} (a b : Rank) (d : Mail s v) (small-a : a.0 < ranks) (small_b : b.0 < ranks)
+module _ {s v : List ℕ} (a b : Rank) (d : Mail s v) (small_a : a.0 < ranks) (small_b : b.0 < ranks)
     (some : 0 < tally (between a b) (messages_in s v)) where
   -- The pair has a pair's number.
   small : pair_of a b < cells
-  small = pair_small a b small-a small_b
+  small = pair_small a b small_a small_b
 
   -- The pair's count is what is unread of it.
   count_is : get_or s (COUNT + pair_of a b) 0 ≡ tally (between a b) (messages_in s v)
-  count_is = count_in a b d small-a small_b
+  count_is = count_in a b d small_a small_b
 
   -- The pair has a first slot.
   first_inside : front (columns_of s) (pair_of a b) < SLOTS
@@ -63,8 +63,8 @@ module _ {s v : List ℕ} (a b : Rank) (d : Mail s v) (small-a : a.0 < ranks) (s
       record {
         live = λ inside. omega (arith, f.here inside, small);
         passes = λ inside.
-            between_pair a b small-a small_b _ (omega (arith, f.here inside, small)) ∙ eq-eqb _ (pair_of a b) (f.here inside);
-        others = λ k h _ live. between_pair a b small-a small_b _ live ∙ ne_eqb _ (pair_of a b) (f.apart k (omega arith) h);
+            between_pair a b small_a small_b _ (omega (arith, f.here inside, small)) ∙ eq-eqb _ (pair_of a b) (f.here inside);
+        others = λ k h _ live. between_pair a b small_a small_b _ live ∙ ne_eqb _ (pair_of a b) (f.apart k (omega arith) h);
       }
 
   -- It is live.

@@ -54,22 +54,22 @@ pub linked_other : {c : Columns} → Index c → (t v : ℕ) → t < length c.pa
     → get_or c.pairs t 0 ≢ q → v ≢ q → get_or first q 0 ≡ get_or c.first q 0
     → ((i : ℕ) → i ≢ t → get_or c.pairs i 0 ≡ q → get_or next i 0 ≡ get_or c.next i 0)
     → get_or last q 0 ≡ get_or c.last q 0 → get_or count q 0 ≡ get_or c.count q 0 → Linked (set c.pairs t v) next first last count q
-linked_other {c} x t v inside next first last count q b was is first-same next-same last-same count_same =
+linked_other {c} x t v inside next first last count q b was is first_same next_same last_same count_same =
     let apart : (i : ℕ) → get_or c.pairs i 0 ≡ q → i ≢ t = (λ i own e. was (ap (λ (k : ℕ). get_or c.pairs k 0) (sym e) ∙ own)) in
     record {
-      front = rw first-same (next_other c.pairs t v q 0 (get_or c.first q 0) inside was is (x.firsts q b));
+      front = rw first_same (next_other c.pairs t v q 0 (get_or c.first q 0) inside was is (x.firsts q b));
       links = λ i h own.
           let mine = read_set c.pairs t v 0 inside (λ y. y ≡ q → get_or c.pairs i 0 ≡ q) i (λ _ e. absurd (is e)) (λ _ e. e) own in
-          rw (next-same i (apart i mine) mine)
+          rw (next_same i (apart i mine) mine)
           (next_other c.pairs t v q (suc i) (get_or c.next i 0) inside was is (x.nexts q i b h mine));
       end = λ some.
           let m = get_or c.last q 0 in
-          let l = x.lasts q b (rw first-same at some) in
+          let l = x.lasts q b (rw first_same at some) in
           let ne = apart m l.own in
-          rw last-same (record {
+          rw last_same (record {
             within = l.within;
             own = get_or-set_other c.pairs t m v 0 ne ∙ l.own;
-            over = next-same m ne l.own ∙ l.over;
+            over = next_same m ne l.own ∙ l.over;
           });
       counted =
           let stays = rw (ne_eqb (get_or c.pairs t 0) q was, ne_eqb v q is) at (tally_set (λ y. eqb y q) c.pairs t v 0 inside) in

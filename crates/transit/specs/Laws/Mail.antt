@@ -29,8 +29,8 @@ unread_in_lem {s} {v} d = sym (unread_is s) ∙ d.stored
 pub count_in : {s v : List ℕ} (a b : Rank) → Mail s v → a.0 < ranks → b.0 < ranks
     → get_or s (COUNT + pair_of a b) 0 ≡ tally (between a b) (messages_in s v)
 unfolding messages_in
-count_in {s} {v} a b d small-a small_b =
-    sym (count_at s (pair_of a b) (pair_small a b small-a small_b)) ∙ count_messages a b small-a small_b d.index v
+count_in {s} {v} a b d small_a small_b =
+    sym (count_at s (pair_of a b) (pair_small a b small_a small_b)) ∙ count_messages a b small_a small_b d.index v
 
 -- How many messages pass a test never passes 1,024.
 pub tally_limit : {s v : List ℕ} → Mail s v → (q : Message → Bool) → tally q (messages_in s v) ≤ limit
@@ -38,7 +38,7 @@ tally_limit {s} {v} d q = omega (arith, tally_bounded q (messages_in s v), d.few
 
 -- Paper 02, change 3: "The unread count of a pair never passes 1,024." The number stored for it.
 pub count_limit : {s v : List ℕ} (a b : Rank) → Mail s v → a.0 < ranks → b.0 < ranks → get_or s (COUNT + pair_of a b) 0 ≤ limit
-count_limit a b d small-a small_b = omega (arith, count_in a b d small-a small_b, tally_limit d (between a b))
+count_limit a b d small_a small_b = omega (arith, count_in a b d small_a small_b, tally_limit d (between a b))
 
 -- What passes at no message between ranks passes at none.
 pub none_in : (s v : List ℕ) (q : Message → Bool) → ((m : Message) → ranked m ≡ true → q m ≡ false) → select q (messages_in s v) ≡ []

@@ -40,7 +40,7 @@ held_tally f q p small tells i (x ∷ ps) =
     (λ ne. rw (lt-ltb x cells live, tells i x live, ne_eqb x p ne) rest))
     (λ dead. rw (le-ltb x cells dead, ne_eqb x p (λ e. omega (arith, e))) rest)
 
-module _ (a b : Rank) (small-a : a.0 < ranks) (small_b : b.0 < ranks) where
+module _ (a b : Rank) (small_a : a.0 < ranks) (small_b : b.0 < ranks) where
   -- The pair of two ranks has a pair's number.
   pub pair_small : pair_of a b < cells
   pair_small = omega arith
@@ -68,7 +68,7 @@ pub put_messages : {c : Columns} (contents next first : List ℕ) (m : Message) 
     (filled c (pair_of m.sender m.receiver) (set c.places c.tail (place_number m.place)) next first)
     (set (set contents c.tail m.value) (SEQUENCES + c.tail) m.sequence)
     ≡ messages_of c contents ++ (m ∷ [])
-put_messages {c} contents next first m x z long inside small-a small_b =
+put_messages {c} contents next first m x z long inside small_a small_b =
     let t = c.tail in
     let n = place_number m.place in
     let p = pair_of m.sender m.receiver in

@@ -59,11 +59,11 @@ module _ (s : List ℕ) (x : Index (columns_of s)) {p n : ℕ} (small : p < cell
 pub walk_over : {c : Columns} {p n at : ℕ} → Walked c p n at → SLOTS ≤ at → Reached c p n at
 walk_over w end = record { walked = w; there = λ h. absurd (omega arith) }
 
-module _ {s v : List ℕ} (d : Mail s v) (a b : Rank) (small-a : a.0 < ranks) (small_b : b.0 < ranks) (place : Place) {at : ℕ}
+module _ {s v : List ℕ} (d : Mail s v) (a b : Rank) (small_a : a.0 < ranks) (small_b : b.0 < ranks) (place : Place) {at : ℕ}
     (r : Reached (columns_of s) (pair_of a b) (place_number place) at) where
   -- The slot reached is of the pair.
   live : at < SLOTS → get_or (columns_of s).pairs at 0 < cells
-  live inside = omega (arith, r.walked.own inside, pair_small a b small-a small_b)
+  live inside = omega (arith, r.walked.own inside, pair_small a b small_a small_b)
 
   -- It is the first slot of a message of the pair at the place.
   pub reached_earliest : Earliest s v (picks (BetweenAt a b place)) at
@@ -72,12 +72,12 @@ module _ {s v : List ℕ} (d : Mail s v) (a b : Rank) (small-a : a.0 < ranks) (s
       record {
         live = live;
         passes = λ inside.
-            picks_pair _ (get_or c.places at 0) (live inside) (d.placed at inside (live inside)) a b place small-a small_b
+            picks_pair _ (get_or c.places at 0) (live inside) (d.placed at inside (live inside)) a b place small_a small_b
             ∙ both (eq-eqb (get_or c.pairs at 0) (pair_of a b) (r.walked.own inside))
             (eq-eqb (get_or c.places at 0) (place_number place) (r.there inside));
         others = λ k h slot alive.
             let p = get_or c.pairs k 0 in
-            picks_pair p (get_or c.places k 0) alive (d.placed k slot alive) a b place small-a small_b
+            picks_pair p (get_or c.places k 0) alive (d.placed k slot alive) a b place small_a small_b
             ∙ by_equal p (pair_of a b)
             (λ e. rw (eq-eqb p (pair_of a b) e, ne_eqb (get_or c.places k 0) (place_number place) (r.walked.none k h e)))
             (λ ne. rw (ne_eqb p (pair_of a b) ne));

@@ -56,7 +56,7 @@ module _ (v : List ℕ) where
 -- One number more is copied.
 pub copy_next : (l m : List ℕ) (p : ℕ) → p < length l → p < length m → take p l ≡ take p m
     → take (p + 1) (set l p (get_or m p 0)) ≡ take (p + 1) m
-copy_next l m p in-l in-m same = rw (add-one, take-suc-set l p (get_or m p 0) in-l, take-suc m p 0 in-m, same)
+copy_next l m p in_l in_m same = rw (add-one, take-suc-set l p (get_or m p 0) in_l, take-suc m p 0 in_m, same)
 
 -- The counts before p stand in the contents.
 pub record Keeping (counts contents : List ℕ) (p : ℕ) : Type 0 where

@@ -173,14 +173,14 @@ module _ (s s' : State) (f : Facts s) where
       → ((x y : Rank)
       → call_of s' x y ≡ cond (same_pair a b x y) (u (call_of s x y)) (cond (same_pair a b y x) (v (call_of s x y)) (call_of s x y)))
       → keeps c ≡ true → c.asked (side s a b) (side s b a) ≡ true → Effect s s' c (same_pair a b)
-  about_pair a b apart own other u v c own_is other-is statuses links asks kept fits =
+  about_pair a b apart own other u v c own_is other_is statuses links asks kept fits =
       record {
         kept = kept;
         once = λ x y d. pair_once a b apart x y;
         asked = λ x y hx hy. of_pair (λ x y. c.asked (side s x y) (side s y x) ≡ true) x y fits;
         sides =
             λ x y hx hy.
-            rw (own_is (side s x y) (side s y x), other-is (side s x y) (side s y x))
+            rw (own_is (side s x y) (side s y x), other_is (side s x y) (side s y x))
             (side_anew_lem x y (same_pair a b x y) (same_pair a b y x) (status s x) _ _ _ _
             (statuses x ∙ sym (same_either (same_pair a b x y) (status s x))) (links x y hx hy) (asks x y));
         self = λ x hx. rw (links x x hx hx, asks x x, not_twice a b x apart) (f.pairs.nothing_with_self_lem x hx);
@@ -237,8 +237,8 @@ module _ (s : State) (f : Facts s) where
     recalled : (s' : State) (c : Change) (w : Bool) → Two s a b → s'.processes ≡ (with_request a q s).processes → s'.links ≡ s.links
         → ((x y : Side) → c.own x y ≡ ask_as w x) → ((x y : Side) → c.other x y ≡ x) → asks_for b q ≡ w
         → keeps c ≡ true → c.asked (side s a b) (side s b a) ≡ true → Effect s s' c (same_pair a b)
-    recalled s' c w two processes links own_is other-is asks =
-        about_pair s s' f a b two.apart (λ l. l) (λ l. l) (λ _. w) (λ u. u) c own_is other-is
+    recalled s' c w two processes links own_is other_is asks =
+        about_pair s s' f a b two.apart (λ l. l) (λ l. l) (λ _. w) (λ u. u) c own_is other_is
         (λ x. ap (λ (ps : List Process). (get_or ps x.0 idle).status) processes ∙ status_with_request s a x q)
         (λ x y hx hy. rw (links, same_either, same_either))
         (λ x y.

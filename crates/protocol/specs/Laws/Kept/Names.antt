@@ -155,7 +155,7 @@ module _ {s : State} (f : Shape s) (n : Names s) where
       → ((a : Rank) → a.0 < ranks → is_drawn s (get_or ls (cell a r) unknown) ≡ true)
       → ((a b : Rank) → b.0 < ranks → is_same_rank b r ≡ false → get_or ls (cell a b) unknown ≡ location s a b)
       → Names (with_locations ls (with_status r t s))
-  names_with_status r t ls in_range started drawn alone apart of-it of_others =
+  names_with_status r t ls in_range started drawn alone apart of_it of_others =
       record {
         numbers_in_range_lem = n.numbers_in_range_lem;
         vmids_drawn_lem =
@@ -166,7 +166,7 @@ module _ {s : State} (f : Shape s) (n : Names s) where
         tables_drawn_lem =
             λ a b ha hb.
             rw (after b)
-            (chosen_at (told a) r b t (status s b) (rw started (of-it a ha))
+            (chosen_at (told a) r b t (status s b) (rw started (of_it a ha))
             (λ e. rw (of_others a b hb e) (n.tables_drawn_lem a b ha hb)));
         vmids_apart_lem =
             λ a b ha hb.

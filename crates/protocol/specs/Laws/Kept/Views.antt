@@ -152,9 +152,9 @@ module _ {s s' : State} {c : Change} {about : Rank → Rank → Bool} (f : Facts
 
   -- where it changes no place, no message changes
   views_still : s'.unread ≡ s.unread → ((x : Place) → c.place x ≡ x) → ((x : Place) → c.place_back x ≡ x) → Unbarred f e → Views s'
-  views_still same stays stays-back =
+  views_still same stays stays_back =
       views_anew (λ m. m) (same ∙ ap among (sym (map-id (messages s))))
-      (λ m. rw (stays m.place, stays-back m.place, same_either, same_either))
+      (λ m. rw (stays m.place, stays_back m.place, same_either, same_either))
 
 -- The kinds with cases, and those that change the messages alone.
 module _ (s : State) (f : Facts s) where
