@@ -1,0 +1,22 @@
+use Rattle.std.proofs.Common.{arith}
+use Rattle.transit.specs.Laws.Search.{walk_first, walk_on, walk_next, walk_there, walk_over}
+use Rattle.transit_seek.proofs.seek.Goals as goal
+
+pub loop-at-init : goal.loop-at-init
+loop-at-init c = λ x. rw c.wide-at.ensures (walk_first c.args.slots.now x c.requires)
+
+pub returns-then-slots-at : goal.returns-then-slots-at
+returns-then-slots-at c =
+    λ x. walk_there c.args.slots.now x c.requires (c.loop-at.invariant x) (omega arith) c.if-slots-at.true
+
+pub returns-then-next-at : goal.returns-then-next-at
+returns-then-next-at c =
+    λ x.
+    let on = walk_on c.args.slots.now x c.requires (c.loop-at.invariant x) (omega arith) in
+    absurd (omega (arith, c.wide-next.ensures))
+
+pub loop-at-preserved : goal.loop-at-preserved
+loop-at-preserved c =
+    λ x.
+    rw c.wide-next.ensures
+    (walk_next c.args.slots.now x c.requires (c.loop-at.invariant x) (omega arith) c.if-slots-at.false)
