@@ -143,7 +143,7 @@ module _ (s : State) (a b : Rank) (v : ℕ) (hs : sound s ≡ true) (p : refusal
             λ in_bytes bytes fs ts c f.
             step_follows q (of_two Kind.call a b) (Call a b) 3 (λ t. named_in_bytes Kind.call refl) refl quiet.is_sound calls (λ l. refl)
             (w.follows in_bytes (Send a b v ∷ fs) ts c
-            (step_follows w.then x (Send a b v) next bytes reads w.is_sound sends (λ l. refl)
+            (step_follows {then = none} w.then x (Send a b v) next bytes reads w.is_sound sends (λ l. refl)
             (step_follows sent (of_two Kind.part a b) (Part a b) 3 (λ t. named_in_bytes Kind.part refl) refl sent_sound parts (λ l. refl)
             f)));
       }
