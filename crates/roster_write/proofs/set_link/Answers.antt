@@ -1,0 +1,22 @@
+use Rattle.std.proofs.Common.{◌+◌, arith}
+use Rattle.base.specs.Laws.Tabulate.{tabulate_set_past}
+use Rattle.transit.specs.Message.{cells}
+use Rattle.roster.specs.Laws.Columns.{stored, links_only}
+use Rattle.roster.specs.Laws.Stores.{column_set}
+use Rattle.roster.specs.Numbers.{link_of}
+use Rattle.roster.specs.Roster.{ranks_of, LINKS}
+use Rattle.roster_write.proofs.set_link.Goals as goal
+
+pub returns-then-i-lt-CELLS : goal.returns-then-i-lt-CELLS
+unfolding ranks_of
+returns-then-i-lt-CELLS c =
+    let cell = c.cell-i in
+    let roster = c.args.roster.now in
+    rw (← cell.ensures)
+    (links_only (stored roster (LINKS + cell.result) c.encode_link-w.result c.requires (omega arith) (omega arith))
+    (column_set link_of LINKS cells roster c.if-i-lt-CELLS.true (omega arith) c.encode_link-w.ensures))
+
+pub returns-else-i-lt-CELLS : goal.returns-else-i-lt-CELLS
+unfolding ranks_of
+returns-else-i-lt-CELLS c =
+    record { long = c.requires; same = rw (← c.cell-i.ensures, tabulate_set_past _ _ _ _ c.if-i-lt-CELLS.false) }
