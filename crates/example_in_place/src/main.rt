@@ -3,22 +3,19 @@
 #![tactic(auto)]
 
 use broker::state::Broker;
-use libc::STDOUT_FILENO;
 use roster::ROSTER_LENGTH;
+use std::io;
 use steps_in_place::step_in_place;
 use steps_load::{open_fresh, unload};
 use transit::{CONTENTS_LENGTH, SLOTS_LENGTH};
 
 // The answer's number, 0 where the step is accepted, and its first value.
-fn tell(number: u8, value: u64) {
-    io::print_decimal(STDOUT_FILENO, number as u64);
-    io::write_all(STDOUT_FILENO, b" ");
-    io::print_decimal(STDOUT_FILENO, value);
-    io::write_all(STDOUT_FILENO, b"\n");
+fn tell(rt: &impl Print, number: u8, value: u64) -> io::Result<()> {
+    println!(rt; "{number} {value}")
 }
 
 // The log has the records start 0 0, start 1 1, call 0 1, route 0 1, send 0 1 500, send 0 1 501 and take 1 0.
-fn main() {
+fn main(rt: HostRuntime) -> io::Result<()> {
     let log =
         b"\x01\x00\x00\x01\x01\x01\x02\x00\x01\x03\x00\x01\x04\x00\x01\xF4\x01\x00\x00\x04\x00\x01\xF5\x01\x00\x00\x05\x01\x00";
     let mut slots = [0u16; SLOTS_LENGTH];
@@ -30,14 +27,14 @@ fn main() {
         let reply = step_in_place(log, at, &mut slots, &mut contents, &mut roster);
         let answer = reply.answer;
         let values = answer.values();
-        tell(answer.number(), values.0 as u64);
+        tell(&rt, answer.number(), values.0 as u64)?;
         let next = reply.next;
         if next <= at {
-            return;
+            break;
         }
         at = next;
     }
     let broker = unload(Broker::fresh(), &slots, &contents, &roster);
-    io::print_decimal(STDOUT_FILENO, broker.transit.count as u64);
-    io::write_all(STDOUT_FILENO, b" unread\n");
+    let count = broker.transit.count;
+    println!(rt; "{count} unread")
 }

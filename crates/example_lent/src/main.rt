@@ -8,7 +8,7 @@ ghost use Rattle.protocol.specs.Step.{step};
 ghost use Rattle.steps.specs.Outcome.{outcome, RefusalKeeps};
 
 use broker::state::Broker;
-use libc::STDOUT_FILENO;
+use std::io;
 use steps::Outcome;
 use steps_lent::step_lent;
 
@@ -27,15 +27,12 @@ fn step_by_lending(mut broker: Broker, log: &[u8], at: usize) -> Outcome
 }
 
 // The answer's number, 0 where the step is accepted, and its first value.
-fn tell(number: u8, value: u64) {
-    io::print_decimal(STDOUT_FILENO, number as u64);
-    io::write_all(STDOUT_FILENO, b" ");
-    io::print_decimal(STDOUT_FILENO, value);
-    io::write_all(STDOUT_FILENO, b"\n");
+fn tell(rt: &impl Print, number: u8, value: u64) -> io::Result<()> {
+    println!(rt; "{number} {value}")
 }
 
 // The log has the records start 0 0, start 1 1, call 0 1, route 0 1, send 0 1 500, take 1 0 and land 1.
-fn main() {
+fn main(rt: HostRuntime) -> io::Result<()> {
     let log =
         b"\x01\x00\x00\x01\x01\x01\x02\x00\x01\x03\x00\x01\x04\x00\x01\xF4\x01\x00\x00\x05\x01\x00\x09\x01";
     let mut broker = Broker::fresh();
@@ -44,12 +41,13 @@ fn main() {
         let done = step_by_lending(broker, log, at);
         let answer = done.answer;
         let values = answer.values();
-        tell(answer.number(), values.0 as u64);
+        tell(&rt, answer.number(), values.0 as u64)?;
         let next = done.next;
         if next <= at {
-            return;
+            break;
         }
         broker = done.broker;
         at = next;
     }
+    Ok(())
 }

@@ -2,11 +2,15 @@
 #![tactic(auto)]
 
 use broker::state::Broker;
-use libc::{STDERR_FILENO, STDIN_FILENO, STDOUT_FILENO};
+use std::io;
+use std::io::Read;
 use steps::step;
 
 // The numbers of an answer: 0 where the step is accepted, and the refusals up to 28.
 const NUMBERS: usize = 29;
+
+// So many bytes of a log are read.
+const ROOM: u64 = 65536;
 
 // One more, up to the largest number that fits.
 fn one_more(count: u32) -> u32 {
@@ -14,30 +18,26 @@ fn one_more(count: u32) -> u32 {
 }
 
 // A line for a number that came.
-fn tell(number: usize, count: u32) {
+fn tell(rt: &impl Print, number: usize, count: u32) -> io::Result<()> {
     if 0 < count {
-        io::print_decimal(STDOUT_FILENO, number as u64);
-        io::write_all(STDOUT_FILENO, b" ");
-        io::print_decimal(STDOUT_FILENO, count as u64);
-        io::write_all(STDOUT_FILENO, b"\n");
+        println!(rt; "{number} {count}")?;
     }
+    Ok(())
 }
 
-// The log is read as far as the buffer goes. No number is above 28: the test in the loop spares the proof of that.
-fn main() {
-    let mut log = io::large_buffer();
-    let end = io::read_full(STDIN_FILENO, &mut log);
-    if end == log.len() {
-        io::write_all(
-            STDERR_FILENO,
-            b"example_tally: the log is cut at 65,536 bytes\n",
-        );
+// The log is read as far as the room goes, and up to a read that fails. No number is above 28: the test in the loop spares the proof of that.
+fn main(rt: HostRuntime) -> io::Result<()> {
+    let mut log = Vec::new(rt.alloc());
+    let _ = rt.stdin().take(ROOM).read_to_end(&mut log);
+    let end = log.len();
+    if end as u64 == ROOM {
+        eprintln!(rt; "example_tally: the log is cut at 65,536 bytes")?;
     }
     let mut counts = [0u32; NUMBERS];
     let mut broker = Broker::fresh();
     let mut at: usize = 0;
     while at < end {
-        let done = step(broker, &log[..end], at);
+        let done = step(broker, log.as_slice(), at);
         let answer = done.answer;
         let number = answer.number() as usize;
         if number < NUMBERS {
@@ -51,6 +51,7 @@ fn main() {
         at = next;
     }
     for number in 0..NUMBERS {
-        tell(number, counts[number]);
+        tell(&rt, number, counts[number])?;
     }
+    Ok(())
 }

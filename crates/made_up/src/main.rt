@@ -6,13 +6,15 @@ ghost use Rattle.std.specs.Prelude.{◌≤◌, length};
 ghost use Rattle.made_up_pass.specs.Ending.{Ends};
 ghost use Rattle.made_up_pass.specs.Piece.{piece_room};
 
-use libc::{STDERR_FILENO, STDOUT_FILENO};
+mod given;
+
+use given::{ARGUMENT_LENGTH, BUFFER_LENGTH, argument_count, take_argument};
 use made_up_pass::{Ending, Next, next_of, next_piece, no_piece, put_ending};
 use made_up_plan::{COUNT_AT, Plan, SEED_AT, plan_of};
 use made_up_problem::put_problem;
 
 // Writes the log of so many records from a seed to standard output.
-fn write_pass(seed: u32, count: u64, buffer: &mut [u8]) -> Ending
+fn write_pass(rt: &impl Print, seed: u32, count: u64, buffer: &mut [u8]) -> Ending
     requires { piece_room ≤ length buffer.old }
     ensures { Ends seed count result }
 {
@@ -20,7 +22,7 @@ fn write_pass(seed: u32, count: u64, buffer: &mut [u8]) -> Ending
     loop {
         piece = next_piece(piece, buffer);
         let bytes = piece.bytes;
-        let written = io::write_all(STDOUT_FILENO, &buffer[..bytes]);
+        let written = rt.write_all(&buffer[..bytes]).is_ok();
         let next = next_of(piece, written);
         match next {
             Next::Again => {}
@@ -31,30 +33,30 @@ fn write_pass(seed: u32, count: u64, buffer: &mut [u8]) -> Ending
     }
 }
 
-fn main() {
-    let mut seed = io::buffer();
-    let seed_long = os::arg(SEED_AT, &mut seed);
-    let seed_error = os::errno();
-    let mut count = io::buffer();
-    let count_long = os::arg(COUNT_AT, &mut count);
-    let count_error = os::errno();
+fn main(rt: HostRuntime) {
+    let mut seed = [0u8; ARGUMENT_LENGTH];
+    let seed_given = take_argument(&rt, SEED_AT, &mut seed);
+    let seed_long = seed_given.long;
+    let mut count = [0u8; ARGUMENT_LENGTH];
+    let count_given = take_argument(&rt, COUNT_AT, &mut count);
+    let count_long = count_given.long;
     let plan = plan_of(
-        os::arg_count(),
-        seed_error,
+        argument_count(&rt),
+        seed_given.error,
         &seed[..seed_long],
-        count_error,
+        count_given.error,
         &count[..count_long],
     );
-    let mut buffer = io::large_buffer();
+    let mut buffer = [0u8; BUFFER_LENGTH];
     match plan {
         Plan::Pass(word, records) => {
-            let ending = write_pass(word, records, &mut buffer);
+            let ending = write_pass(&rt, word, records, &mut buffer);
             let said = put_ending(&mut buffer, ending);
-            io::write_all(STDERR_FILENO, &buffer[..said]);
+            let _ = rt.stderr().write_all(&buffer[..said]);
         }
         Plan::Tell(problem) => {
             let said = put_problem(&mut buffer, problem);
-            io::write_all(STDERR_FILENO, &buffer[..said]);
+            let _ = rt.stderr().write_all(&buffer[..said]);
         }
     }
 }

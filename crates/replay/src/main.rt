@@ -2,17 +2,17 @@
 // what to hand over, whether to read on, whether to stop and what to say. Paper 01, "The printed run".
 #![tactic(auto)]
 
-use libc::{STDERR_FILENO, STDIN_FILENO, STDOUT_FILENO};
 use replay_course::take_turn;
 use replay_stage::words::words;
-use replay_stage::{Then, after_write, begun, take_in};
+use replay_stage::{BUFFER_LENGTH, Then, after_write, answer_of, begun, take_in};
 use roster::ROSTER_LENGTH;
+use std::io::Read;
 use steps_load::open_fresh;
 use transit::{CONTENTS_LENGTH, SLOTS_LENGTH};
 
-fn main() {
-    let mut buffer = io::large_buffer();
-    let mut page = io::large_buffer();
+fn main(rt: HostRuntime) {
+    let mut buffer = [0u8; BUFFER_LENGTH];
+    let mut page = [0u8; BUFFER_LENGTH];
     let mut slots = [0u16; SLOTS_LENGTH];
     let mut contents = [0u32; CONTENTS_LENGTH];
     let mut roster = [0u64; ROSTER_LENGTH];
@@ -31,17 +31,17 @@ fn main() {
                     &mut roster,
                 );
                 let used = turned.used;
-                let wrote = io::write_all(STDOUT_FILENO, &page[..used]);
+                let wrote = rt.write_all(&page[..used]).is_ok();
                 stage = after_write(turned, wrote);
             }
             Then::Read => {
                 let held = stage.held;
-                let got = libc::read(STDIN_FILENO, &mut buffer[held..]);
+                let got = answer_of(rt.stdin().read(&mut buffer[held..]));
                 stage = take_in(stage, got, &buffer[held..]);
             }
             Then::Stop(why) => {
                 let said = words(why, &mut page);
-                io::write_all(STDERR_FILENO, &page[..said]);
+                let _ = rt.stderr().write_all(&page[..said]);
                 return;
             }
         }

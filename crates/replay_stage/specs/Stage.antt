@@ -1,5 +1,5 @@
 -- Where the program `replay` stands, and what each of its calls does to that. Paper 01, "The printed run". Assumes nothing.
-use Rattle.std.specs.Prelude.{Bool, true, false, ℕ, zero, suc, ◌+◌, min, ℤ, pos, negsuc}
+use Rattle.std.specs.Prelude.{Bool, true, false, ℕ, zero, suc, ◌+◌, min, ℤ, pos, negsuc, Result, Ok, Err}
 use Rattle.print_turn.specs.declared.Next.{Next}
 use Rattle.print_turn.specs.declared.Next.TheVariants.{Again, Read, End, TooLong}
 use Rattle.replay_stage.specs.declared.Ending.TheVariants as Ending
@@ -13,10 +13,20 @@ use Rattle.replay_stage.specs.declared.Then.TheVariants as Then
 abbrev pub begins : Stage
 begins = record { held = 0; base = 0; done = false; used = 0; then = Then.Turn }
 
+-- what a read answered, as a number: how many bytes it read, and a number below zero where it failed
+abbrev pub answer_of : {E : Type 0} → Result ℕ E → ℤ
+answer_of (Ok count) = pos count
+answer_of (Err why) = negsuc 0
+
 -- so many bytes were read: none is the input's end, and nothing else is
 abbrev pub count_given : ℕ → Given
 count_given zero = Nothing
 count_given (suc n) = Bytes (suc n)
+
+-- what a call answered, brought into `0..=most`
+abbrev pub clamp_len : ℤ → ℕ → ℕ
+clamp_len (pos k) most = min k most
+clamp_len (negsuc k) most = 0
 
 -- what a read gave, by what it answered: below zero it failed, and else it counts the bytes, no more than were lent
 abbrev pub given_of : ℤ → ℕ → Given

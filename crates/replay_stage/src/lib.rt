@@ -2,13 +2,17 @@
 // write, and what it says as it ends. Paper 01, "The printed run".
 #![tactic(auto)]
 
-ghost use Rattle.std.specs.Prelude.{◌≡◌, ◌+◌, ◌≤◌, ◌<◌, length};
+ghost use Rattle.std.specs.Prelude.{◌≡◌, ◌+◌, ◌≤◌, ◌<◌, ◌^◌, IfOk, length};
 ghost use Rattle.print_turn.specs.Turn.{buffer_room};
-ghost use Rattle.replay_stage.specs.Stage.{begins, given_of, taken_in, then_of, after_write};
+ghost use Rattle.replay_stage.specs.Stage.{answer_of, begins, given_of, taken_in, then_of, after_write};
 
 use print_turn::Next;
+use std::io;
 
 pub mod words;
+
+// How long the buffer is, and the page.
+pub const BUFFER_LENGTH: usize = 65536;
 
 // How the program ends.
 #[derive(Clone, Copy)]
@@ -69,6 +73,17 @@ pub fn begun() -> Stage
     }
 }
 
+// What a read answered, as a number: how many bytes it read, and a number below zero where it failed.
+pub fn answer_of(got: io::Result<usize>) -> isize
+    requires { IfOk got (λ count. count < 2 ^ 63) }
+    ensures { result ≡ answer_of got }
+{
+    match got {
+        Ok(count) => count as isize,
+        Err(_) => -1,
+    }
+}
+
 // What a read gave, by what it answered and the part of the buffer that it was lent.
 fn read_gave(got: isize, lent: &[u8]) -> Given
     ensures { result ≡ given_of got (length lent.now) }
@@ -76,7 +91,7 @@ fn read_gave(got: isize, lent: &[u8]) -> Given
     if got < 0 {
         return Given::Failed;
     }
-    let count = io::count(got, lent);
+    let count = (got as usize).min(lent.len());
     if count == 0 {
         return Given::Nothing;
     }

@@ -7,7 +7,7 @@ use crate::part::{link_after, message, process_after, running_number, vmid};
 use crate::word::{Word, word_of};
 use broker::process::Vmid;
 use broker::state::Broker;
-use libc::STDOUT_FILENO;
+use std::io;
 use transit::{CELLS, Message, RANKS, Transit};
 
 // The place of a rank among sixteen. The list names no other where a state has a place for each.
@@ -127,16 +127,16 @@ fn with_sent(broker: Broker, a: u64, b: u64, sent: u64) -> Broker {
 }
 
 // A line that is none of the list's is printed, so that the output differs.
-fn complain(line: &[u8]) {
-    io::write_all(STDOUT_FILENO, line);
-    io::write_all(STDOUT_FILENO, b"?\n");
+fn complain(rt: &impl Print, line: &[u8]) -> io::Result<()> {
+    rt.write_all(line)?;
+    println!(rt; "?")
 }
 
 // The state after a line of the list.
-pub fn changed(broker: Broker, line: &[u8]) -> Broker {
+pub fn changed(rt: &impl Print, broker: Broker, line: &[u8]) -> io::Result<Broker> {
     let n = numbers_in(line);
     let word = word_of(line);
-    match word {
+    let next = match word {
         Word::Fresh => Broker::fresh(),
         Word::Running | Word::Moving | Word::Ended | Word::Call => with_process(broker, word, n),
         Word::Plain | Word::Notice | Word::Unheeded | Word::Marked => with_link(broker, word, n),
@@ -149,8 +149,9 @@ pub fn changed(broker: Broker, line: &[u8]) -> Broker {
         Word::Sent => with_sent(broker, n[0], n[1], n[2]),
         Word::Remark => broker,
         _ => {
-            complain(line);
+            complain(rt, line)?;
             broker
         }
-    }
+    };
+    Ok(next)
 }

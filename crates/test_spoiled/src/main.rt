@@ -2,6 +2,8 @@
 // sound. The head of the list, the file `stdin`, explains its lines.
 #![tactic(auto)]
 
+ghost use Rattle.std.specs.Prelude.{◌≤◌, length};
+
 mod change;
 mod number;
 mod part;
@@ -11,9 +13,13 @@ mod word;
 
 use broker::state::Broker;
 use change::changed;
-use libc::STDIN_FILENO;
+use std::io;
+use std::io::Read;
 use tell::tell;
 use word::{Word, word_of};
+
+// So many bytes of the list are read.
+const ROOM: u64 = 65536;
 
 // Whether a line names the state that the lines before it make.
 fn is_name(line: &[u8]) -> bool {
@@ -24,9 +30,24 @@ fn is_name(line: &[u8]) -> bool {
     }
 }
 
+// Where a byte stands first in a text from a position on, and the text's end where it does not.
+fn find(text: &[u8], from: usize, byte: u8) -> usize
+    requires { from ≤ length text.now }
+    ensures { (from ≤ result) × (result ≤ length text.now) }
+{
+    let mut at = from;
+    while at < text.len() {
+        if text[at] == byte {
+            return at;
+        }
+        at += 1;
+    }
+    at
+}
+
 // What stands behind the first word.
 fn name_in(line: &[u8]) -> &[u8] {
-    let end = bytes::scan::find(line, 0, line.len(), b' ');
+    let end = find(line, 0, b' ');
     if end < line.len() {
         return &line[end + 1..];
     }
@@ -34,30 +55,31 @@ fn name_in(line: &[u8]) -> &[u8] {
 }
 
 // Every line of the list. A state starts at the first one, and that at a fresh one.
-fn read_list(text: &[u8]) {
+fn read_list(rt: &impl Print, text: &[u8]) -> io::Result<()> {
     let mut start = Broker::fresh();
     let mut state = start;
     let mut is_first = true;
     let mut at: usize = 0;
     while at < text.len() {
-        let end = bytes::scan::find(text, at, text.len(), b'\n');
+        let end = find(text, at, b'\n');
         let line = &text[at..end];
         if is_name(line) {
-            tell(name_in(line), state);
+            tell(rt, name_in(line), state)?;
             if is_first {
                 start = state;
             }
             is_first = false;
             state = start;
         } else {
-            state = changed(state, line);
+            state = changed(rt, state, line)?;
         }
         at = end + 1;
     }
+    Ok(())
 }
 
-fn main() {
-    let mut buffer = io::large_buffer();
-    let size = io::read_full(STDIN_FILENO, &mut buffer);
-    read_list(&buffer[..size]);
+fn main(rt: HostRuntime) -> io::Result<()> {
+    let mut list = Vec::new(rt.alloc());
+    let _ = rt.stdin().take(ROOM).read_to_end(&mut list);
+    read_list(&rt, list.as_slice())
 }

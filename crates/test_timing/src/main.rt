@@ -12,9 +12,10 @@ ghost use Rattle.steps.specs.Outcome.{outcome, RefusalKeeps};
 
 use answer::Answer;
 use broker::state::Broker;
-use libc::{STDIN_FILENO, STDOUT_FILENO};
 use roster::{ROSTER_LENGTH, Roster};
 use soundness::is_sound;
+use std::io;
+use std::io::Read;
 use steps::{Outcome, step};
 use steps_in_place::step_in_place;
 use steps_lent::step_lent;
@@ -32,6 +33,9 @@ const TESTED: u8 = 3;
 
 // The byte that asks for steps in place.
 const IN_PLACE: u8 = 4;
+
+// So many bytes of the input are read.
+const ROOM: u64 = 65536;
 
 // So many bytes stand before the log.
 const HEAD: usize = 5;
@@ -55,7 +59,7 @@ fn lead(log: &[u8], slots: &mut Slots, contents: &mut Contents, roster: &mut Ros
 // The answer's number and its first value, together.
 fn told(answer: Answer) -> u64 {
     let values = answer.values();
-    std::num::wrapping_add_u64(answer.number() as u64, values.0 as u64)
+    (answer.number() as u64).wrapping_add(values.0 as u64)
 }
 
 // A step by lending: the state is lent to the step, and then handed back.
@@ -93,7 +97,7 @@ fn looks(call: u8, start: Broker, times: u32) -> u64 {
         let done = step_by(call, broker, look, 0);
         let answer = done.answer;
         broker = done.broker;
-        sum = std::num::wrapping_add_u64(sum, told(answer));
+        sum = sum.wrapping_add(told(answer));
         turn += 1;
     }
     sum
@@ -114,7 +118,7 @@ fn looks_in_place(
     while turn < times {
         let done = step_in_place(look, 0, slots, contents, roster);
         let answer = done.answer;
-        sum = std::num::wrapping_add_u64(sum, told(answer));
+        sum = sum.wrapping_add(told(answer));
         turn += 1;
     }
     sum
@@ -126,7 +130,7 @@ fn tests(broker: Broker, times: u32) -> u64 {
     let mut turn: u32 = 0;
     while turn < times {
         if is_sound(broker) {
-            sum = std::num::wrapping_add_u64(sum, 1);
+            sum = sum.wrapping_add(1);
         }
         turn += 1;
     }
@@ -139,11 +143,12 @@ fn number(a: u8, b: u8, c: u8, d: u8) -> u32 {
 }
 
 // A byte that asks for none of the calls has only the log run.
-fn main() {
-    let mut input = io::large_buffer();
-    let end = io::read_full(STDIN_FILENO, &mut input);
-    if end < HEAD {
-        return;
+fn main(rt: HostRuntime) -> io::Result<()> {
+    let mut text = Vec::new(rt.alloc());
+    let _ = rt.stdin().take(ROOM).read_to_end(&mut text);
+    let input = text.as_slice();
+    if input.len() < HEAD {
+        return Ok(());
     }
     let call = input[0];
     let times = number(input[1], input[2], input[3], input[4]);
@@ -151,7 +156,7 @@ fn main() {
     let mut contents = [0u32; CONTENTS_LENGTH];
     let mut roster = [0u64; ROSTER_LENGTH];
     open_fresh(&mut slots, &mut contents, &mut roster);
-    lead(&input[HEAD..end], &mut slots, &mut contents, &mut roster);
+    lead(&input[HEAD..], &mut slots, &mut contents, &mut roster);
     let broker = unload(Broker::fresh(), &slots, &contents, &roster);
     let mut sum: u64 = 0;
     if call == BY_VALUE || call == LENT {
@@ -163,6 +168,5 @@ fn main() {
     if call == IN_PLACE {
         sum = looks_in_place(times, &mut slots, &mut contents, &mut roster);
     }
-    io::print_decimal(STDOUT_FILENO, sum);
-    io::write_all(STDOUT_FILENO, b"\n");
+    println!(rt; "{sum}")
 }

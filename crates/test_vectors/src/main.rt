@@ -3,28 +3,26 @@
 #![tactic(auto)]
 
 use generator_draw::draw;
-use libc::STDOUT_FILENO;
+use std::io;
 
 // The word that is drawn behind a word, behind a space.
-fn print_draw(word: u32) -> u32 {
+fn print_draw(rt: &impl Print, word: u32) -> io::Result<u32> {
     let drawn = draw(word);
-    io::write_all(STDOUT_FILENO, b" ");
-    io::print_decimal(STDOUT_FILENO, drawn as u64);
-    drawn
+    print!(rt; " {drawn}")?;
+    Ok(drawn)
 }
 
 // A seed and the four words that are drawn from it, in a line.
-fn print_draws(seed: u32) {
-    io::print_decimal(STDOUT_FILENO, seed as u64);
-    io::write_all(STDOUT_FILENO, b":");
-    let first = print_draw(seed);
-    let second = print_draw(first);
-    let third = print_draw(second);
-    print_draw(third);
-    io::write_all(STDOUT_FILENO, b"\n");
+fn print_draws(rt: &impl Print, seed: u32) -> io::Result<()> {
+    print!(rt; "{seed}:")?;
+    let first = print_draw(rt, seed)?;
+    let second = print_draw(rt, first)?;
+    let third = print_draw(rt, second)?;
+    print_draw(rt, third)?;
+    println!(rt)
 }
 
-fn main() {
-    print_draws(2463534242);
-    print_draws(1);
+fn main(rt: HostRuntime) -> io::Result<()> {
+    print_draws(&rt, 2463534242)?;
+    print_draws(&rt, 1)
 }

@@ -2,8 +2,7 @@
 use Rattle.std.specs.Prelude.{true, false, ◌≡◌, refl, ℕ, zero, suc, ◌≤◌, ◌<◌, min, ℤ, pos, negsuc}
 use Rattle.std.proofs.Common.{arith, ltb-true}
 use Rattle.std.specs.Int.Signed.{lt_z}
-use Rattle.io.specs.Counts.{clamp_len}
-use Rattle.replay_stage.specs.Stage.{count_given, given_of}
+use Rattle.replay_stage.specs.Stage.{clamp_len, count_given, given_of}
 use Rattle.replay_stage.specs.declared.Given.TheVariants.{Failed, Bytes}
 
 -- A number below zero says that it failed.
