@@ -8,7 +8,7 @@ use crate::tree::{expect_none, sources, Source};
 fn renamed(source: &Source) -> Vec<String> {
     let imports = imports(&antt_part(source)).into_iter();
     let renamed = imports.filter_map(|import| {
-        let name = import.path.split_once(".the-variants.")?.1;
+        let name = import.path.split_once(".TheVariants.")?.1;
         (name != import.local).then(|| source.at(import.line, complaint(name, &import.local)))
     });
     let mut found: Vec<String> = renamed.collect();
@@ -26,7 +26,7 @@ fn renamed_in_code(source: &Source) -> Vec<String> {
         let owner = owner.rsplit("::").next()?;
         let is_variant = owner.starts_with(|c: char| c.is_uppercase());
         (is_variant && name != import.local)
-            .then(|| source.at(import.line, complaint(name, import.local)))
+            .then(|| source.at(import.line, complaint(name, &import.local)))
     });
     renamed.collect()
 }
@@ -48,12 +48,12 @@ fn variants_have_no_alias() {
 fn other_names_of_variants_are_found() {
     let antt = Source::of(
         "x.antt",
-        "use a.B.the-variants.{C, D as E}\nuse a.B.the-variants as b\nuse a.B.{f as g}",
+        "use a.B.TheVariants.{C, D as E}\nuse a.B.TheVariants as b\nuse a.B.{f as g}",
     );
     assert_eq!(renamed(&antt), ["x.antt:1: the variant 'D' is called 'E'"]);
     let code = Source::of(
         "x.rt",
-        "ghost use a.B.the-variants.{C as F};\nuse a::B::D as E;\nuse a::b as c;\nuse a::B::G;",
+        "ghost use a.B.TheVariants.{C as F};\nuse a::B::{D as E, G};\nuse a::b as c;\nuse a::B::G;",
     );
     let expected = [
         "x.rt:1: the variant 'C' is called 'F'",

@@ -1,5 +1,5 @@
 //! What the files of the tree cite of each other. A name is written with its
-//! file: `protocol.specs.Laws.Step.step-refused`.
+//! file: `protocol.specs.Laws.Step.step_refused`.
 
 use crate::code::ghost_part;
 use crate::imports::{imports, words_outside};
@@ -13,13 +13,10 @@ pub fn whole_name(path: &str, name: &str) -> String {
     format!("{}.{name}", file.replace('/', "."))
 }
 
-/// A path of an import without its package: `Rattle·protocol·specs.specs.Step`,
-/// as the crate itself says, and `Rattle·protocol.specs.Step`, as others say, are
-/// both `protocol.specs.Step`.
+/// A path of an import without its package: `Rattle.protocol.specs.Step` is
+/// `protocol.specs.Step`.
 pub fn without_package(path: &str) -> Option<String> {
-    let (package, rest) = path.strip_prefix("Rattle·")?.split_once('.')?;
-    let name = package.split('·').next()?;
-    Some(format!("{name}.{rest}"))
+    path.strip_prefix("Rattle.").map(str::to_owned)
 }
 
 /// Everything that a file cites of others, with the files and the types that
@@ -44,16 +41,23 @@ pub fn known(text: &str) -> HashMap<String, String> {
     known
 }
 
+/// The part of a file that is Antt. What code hands to the prover names its own
+/// crate `crate`.
 pub fn antt_part(source: &Source) -> String {
     if source.path.ends_with(".rt") {
-        return ghost_part(&source.text);
+        let own = source.path.split('/').nth(1).unwrap_or("crate");
+        return ghost_part(&source.text).replace("crate::", &format!("{own}::"));
     }
     source.text.clone()
 }
 
 /// The whole names that a word goes through: of `Kind.find` that of `Kind`, and
-/// with `find`.
+/// with `find`. What code hands to the prover has its whole name:
+/// `transit::specs::Laws::Pairs::append_own`.
 pub fn paths(word: &Word, known: &HashMap<String, String>) -> Vec<String> {
+    if word.text.contains("::") {
+        return vec![word.text.replace("::", ".")];
+    }
     let mut parts = word.text.split('.');
     let first = parts.next().and_then(|head| known.get(head));
     let mut found: Vec<String> = first.into_iter().cloned().collect();
@@ -71,23 +75,30 @@ mod tests {
 
     #[test]
     fn names_are_followed_through_imports() {
-        let text = "use Rattle·a·specs.specs.B.{c as d, e, _<_}\nuse Rattle·f.specs.G\nuse m.{n}\n\
-                    x = d (G.h n) .e < k";
+        let text = "use Rattle.a.specs.B.{c as d, e, ◌<◌}\nuse Rattle.f.specs.G\nuse m.{n}\n\
+                    x = d (G.h n).e < k";
         let mut found: Vec<_> = cited(&Source::of("crates/a/specs/X.antt", text))
             .into_iter()
             .collect();
         found.sort();
         assert_eq!(
             found,
-            ["a.specs.B._<_", "a.specs.B.c", "f.specs.G", "f.specs.G.h"]
+            ["a.specs.B.c", "a.specs.B.◌<◌", "f.specs.G", "f.specs.G.h"]
         );
         assert_eq!(whole_name("crates/a/specs/B.antt", "c"), "a.specs.B.c");
     }
 
     #[test]
     fn contracts_cite_too() {
-        let text = "ghost use Rattle·a.specs.B.{c};\nfn f() ensures { ⌜ c ⌝ }";
+        let text = "ghost use Rattle.a.specs.B.{c};\nfn f() ensures { c }";
         let found = cited(&Source::of("crates/k/src/lib.rt", text));
         assert!(found.contains("a.specs.B.c"));
+    }
+
+    #[test]
+    fn what_the_prover_may_use_is_cited() {
+        let text = "#[tactic(auto, using(crate::proofs::P::a, b::specs::C::d))]\nfn f() {}";
+        let found = cited(&Source::of("crates/k/src/lib.rt", text));
+        assert!(found.contains("k.proofs.P.a") && found.contains("b.specs.C.d"));
     }
 }

@@ -13,7 +13,7 @@ use std::collections::HashSet;
 const LOWER: &str = "transit";
 
 /// The name that opens its operations.
-const OPENING: &str = "transit.specs.Opened.openedUnread";
+const OPENING: &str = "transit.specs.Opened.opened_unread";
 
 /// The files of its laws that are the promise, as docs/PROOFS.md says too.
 const PROMISE: [&str; 5] = ["Operations", "Removed", "Promise", "Order", "Pairs"];
@@ -22,13 +22,13 @@ const PROMISE: [&str; 5] = ["Operations", "Removed", "Promise", "Order", "Pairs"
 /// values and listing, and the runs on the page of promises.
 const COMPUTED: [&str; 8] = [
     "protocol.specs.Laws.Opened.opened",
-    "protocol.specs.Laws.Edges.edges-hold",
-    "protocol.specs.Laws.Values.values-hold",
+    "protocol.specs.Laws.Edges.edges_hold",
+    "protocol.specs.Laws.Values.values_hold",
     "print_run.specs.Shown.shown",
-    "print_run.specs.Shown.prints-shown",
-    "print_run.specs.Listing.listing-prints",
-    "promises.specs.Promises.edges-print",
-    "promises.specs.Promises.kinds-print",
+    "print_run.specs.Shown.prints_shown",
+    "print_run.specs.Listing.listing_prints",
+    "promises.specs.Promises.edges_print",
+    "promises.specs.Promises.kinds_print",
 ];
 
 /// How a line begins that hands on a name together with the right to open it.
@@ -41,8 +41,8 @@ struct Opener {
     opened: Vec<String>,
 }
 
-/// The declarations of a file with an `unfolding` line, and its expressions
-/// `unfold .. in ..`.
+/// The declarations of a file with an `unfolding` line, its expressions
+/// `unfold .. in ..`, and what it has the prover open, `unfolding(..)`.
 fn openers(source: &Source) -> Vec<Opener> {
     let text = antt_part(source);
     let known = known(&text);
@@ -57,10 +57,16 @@ fn openers(source: &Source) -> Vec<Opener> {
     let opener = |at: usize| {
         let names = names_behind(&text, &words, at);
         let next = words.get(at + 1 + names.len());
+        let line = words[at].line;
+        let name = match names.first().map(|word| word.text) {
+            Some("(") => format!("line {line}"),
+            _ => next.map_or("", |word| word.text).to_owned(),
+        };
+        let names = names.iter().filter(|word| !["(", ","].contains(&word.text));
         Opener {
-            line: words[at].line,
-            name: whole_name(&source.path, next.map_or("", |word| word.text)),
-            opened: names.iter().map(whole).collect(),
+            line,
+            name: whole_name(&source.path, &name),
+            opened: names.map(whole).collect(),
         }
     };
     (0..words.len()).filter(opens).map(opener).collect()
@@ -68,16 +74,18 @@ fn openers(source: &Source) -> Vec<Opener> {
 
 /// The names behind `unfolding`, which go on as long as lines are further to the
 /// right, and then the declaration's name follows; or those from `unfold` to
-/// `in`.
+/// `in`; or those in brackets, with the one that opens.
 fn names_behind<'a, 'b>(text: &str, words: &'b [Word<'a>], at: usize) -> &'b [Word<'a>] {
     let lines: Vec<&str> = text.lines().collect();
     let indent = |line: usize| lines[line - 1].len() - lines[line - 1].trim_start().len();
     let opens = words[at];
+    let behind = &words[at + 1..];
+    let bracket = behind.first().is_some_and(|word| word.text == "(");
     let ends = |word: &Word| match opens.text {
         "unfold" => word.text == "in",
+        _ if bracket => word.text == ")",
         _ => word.line > opens.line && indent(word.line) <= indent(opens.line),
     };
-    let behind = &words[at + 1..];
     &behind[..behind.iter().position(ends).unwrap_or(behind.len())]
 }
 
@@ -178,8 +186,8 @@ mod tests {
     use super::{cited_beside, opened, openings};
     use crate::tree::Source;
 
-    const IMPORTS: &str = "use Rattle·transit.specs.Opened.{openedUnread}\n\
-        use Rattle·transit.specs.Unread\nuse Rattle·transit.specs.Unread.{appended as put}\n";
+    const IMPORTS: &str = "use Rattle.transit.specs.Opened.{opened_unread}\n\
+        use Rattle.transit.specs.Unread\nuse Rattle.transit.specs.Unread.{appended as put}\n";
 
     fn above(path: &str, text: &str) -> Source {
         Source::of(path, &format!("{IMPORTS}{text}"))
@@ -189,13 +197,18 @@ mod tests {
     fn names_of_the_lower_part_are_found() {
         let text = "a : A\nunfolding b\n    put\na = b\n\n\
             module _ where\n  c : A\n  unfolding Unread.removed d\n  c = d\n\n\
-            e : A\ne = unfold f Rattle·transit.specs.Unread.head in g put\n";
+            e : A\ne = unfold f Rattle.transit.specs.Unread.head in g put\n";
         let tree = [
             above("crates/x/specs/X.antt", text),
             above("crates/transit_x/specs/X.antt", text),
             above(
                 "crates/x/specs/Y.antt",
-                "unfoldable pub use Rattle·transit.specs.Unread.{head}",
+                "unfoldable pub use Rattle.transit.specs.Unread.{head}",
+            ),
+            Source::of(
+                "crates/x/src/lib.rt",
+                "#[tactic(auto, unfolding(crate::specs::X::f, transit::specs::Unread::head))]\nfn f() {}\n\
+                 #[tactic(auto, unfolding(transit::specs::Opened::opened_unread))]\nfn g() {}",
             ),
         ];
         let expected = [
@@ -203,15 +216,17 @@ mod tests {
             "crates/x/specs/X.antt:11: 'transit.specs.Unread.removed' is opened",
             "crates/x/specs/X.antt:15: 'transit.specs.Unread.head' is opened",
             "crates/x/specs/Y.antt:4: the right to open is handed on",
+            "crates/x/src/lib.rt:1: 'transit.specs.Unread.head' is opened",
+            "crates/x/src/lib.rt:3: 'x.src.lib.rt.line 3' opens the lower part",
         ];
         assert_eq!(opened(&tree), expected);
     }
 
     #[test]
     fn openings_are_followed() {
-        let worked = "unfoldable pub run : A\nunfolding openedUnread\nrun = a\n\n\
+        let worked = "unfoldable pub run : A\nunfolding opened_unread\nrun = a\n\n\
             b : A\nunfolding c\nb = run";
-        let law = "use Rattle·x·specs.specs.Worked.W.{run}\n\
+        let law = "use Rattle.x.specs.Worked.W.{run}\n\
             d : A\nunfolding run\nd = a\n\ne : A\nunfolding d\ne = d";
         let tree = [
             above("crates/x/specs/Worked/W.antt", worked),
@@ -237,14 +252,14 @@ mod tests {
 
     #[test]
     fn laws_beside_the_promise_are_found() {
-        let text = "use Rattle·transit.specs.Laws.Pairs.{a}\n\
-            use Rattle·transit.specs.Laws.Held.{b}\nc = a b";
+        let text = "use Rattle.transit.specs.Laws.Pairs.{a}\n\
+            use Rattle.transit.specs.Laws.Held.{b}\nc = a b";
         let paths = [
-            "crates/x/proofs/f/Proof.antt",
-            "crates/transit_x/proofs/f/Proof.antt",
+            "crates/x/proofs/f/Answers.antt",
+            "crates/transit_x/proofs/f/Answers.antt",
         ];
         let found = cited_beside(&paths.map(|path| Source::of(path, text)));
-        let expected = ["crates/x/proofs/f/Proof.antt: 'transit.specs.Laws.Held.b' is cited"];
+        let expected = ["crates/x/proofs/f/Answers.antt: 'transit.specs.Laws.Held.b' is cited"];
         assert_eq!(found, expected);
     }
 }

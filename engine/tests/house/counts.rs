@@ -91,7 +91,7 @@ fn widened_counts_are_found() {
     let lower = Source::of(
         "transit.rt",
         "struct Left { pub left: Count, pub value: u32 }\n\
-        pub fn count(slots: &Slots) -> Count\n    ensures { λ r. ⌜ r ≡ 0 ⌝ }\n{ 0 }\n\
+        pub fn count(slots: &Slots) -> Count\n    ensures { result ≡ 0 }\n{ 0 }\n\
         fn more(n: Count) -> u32 { 1 }",
     );
     let counting = counting(&[lower]);

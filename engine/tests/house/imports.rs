@@ -80,7 +80,7 @@ mod tests {
     use super::{import_lines, imports, words_outside};
 
     const TEXT: &str =
-        "-- use a.b\nuse a.B\nuse a.c as d\npub use e.{f, _≡_,\n  g as h,\n}\nk = B.x";
+        "-- use a.b\nuse a.B\nuse a.c as d\npub use e.{f, ◌≡◌,\n  g as h,\n}\nk = B.x";
 
     #[test]
     fn every_form_is_read() {
@@ -93,7 +93,7 @@ mod tests {
             (2, "a.B", "B"),
             (3, "a.c", "d"),
             (4, "e.f", "f"),
-            (4, "e._≡_", "_≡_"),
+            (4, "e.◌≡◌", "◌≡◌"),
             (5, "e.g", "h"),
         ];
         assert_eq!(found, expected);

@@ -61,7 +61,7 @@ fn length(lines: &[&str], name: &str) -> usize {
     let column = indent(lines[0]);
     let belongs = |content: &&str| {
         let first = content.trim_start().split(' ').next().unwrap_or("");
-        let continues = [name, "unfolding", "--", ")", "}", ""].contains(&first);
+        let continues = [name, "unfolding", "--", ")", "]", "}", ""].contains(&first);
         continues || indent(content) > column
     };
     1 + lines[1..].iter().copied().take_while(belongs).count()

@@ -8,7 +8,7 @@ use crate::imports::words_outside;
 use crate::laws::{laws, Law};
 use crate::table::tables;
 use crate::tree::{expect_none, sources, Source};
-use crate::words::{signs, used};
+use crate::words::{head, signs, used};
 use std::collections::HashSet;
 
 const PAGE: &str = "docs/PROMISES.md";
@@ -48,7 +48,7 @@ fn laws_of_file(source: &Source, elsewhere: &HashSet<String>) -> Vec<Public> {
     let words = used(&words);
     let near = |law: &Law| {
         let mut outside = words.iter().filter(|word| !law.lines.contains(&word.line));
-        outside.any(|word| signs(&law.name).contains(&word.text))
+        outside.any(|word| signs(&law.name).contains(&head(word.text)))
     };
     let public = |law: &Law| {
         let name = whole_name(&source.path, &law.name);
@@ -162,11 +162,11 @@ mod tests {
     fn tree() -> [Source; 3] {
         let law = "pub one : A\none = one\n\npub two : A\ntwo = one\n\npub three : A\nthree = x";
         let same_names = "pub two : A\ntwo = x\npub four : A\nfour = two";
-        let proof = "use Rattle·a.specs.Laws.{three}\nx = three";
+        let proof = "use Rattle.a.specs.Laws.{three}\nx = three";
         [
             Source::of("crates/a/specs/Laws.antt", law),
             Source::of("crates/b/specs/Laws.antt", same_names),
-            Source::of("crates/b/proofs/x/Proof.antt", proof),
+            Source::of("crates/b/proofs/x/Answers.antt", proof),
         ]
     }
 
@@ -185,7 +185,7 @@ mod tests {
     }
 
     const STATED: &str =
-        "use Rattle·a.specs.B.{c, d}\npub one : A\none = c\n\npub two : A\ntwo = refl";
+        "use Rattle.a.specs.B.{c, d}\npub one : A\none = c\n\npub two : A\ntwo = refl";
 
     fn listed(rows: &str) -> Vec<String> {
         let header = "| Promise | What it promises | Laws |\n|---|---|---|\n";
@@ -226,7 +226,7 @@ mod tests {
             "crates/a/specs/Worked/B.antt",
             "crates/test_worked/specs/B.antt",
             "crates/promises/specs/Promises.antt",
-            "crates/a/proofs/f/Proof.antt",
+            "crates/a/proofs/f/Answers.antt",
             "crates/a/src/lib.rt",
         ] {
             assert!(!has_laws(path), "{path}");

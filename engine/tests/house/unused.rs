@@ -35,9 +35,9 @@ fn unused_in_code(source: &Source) -> Vec<String> {
     let plain = plain_part(&source.text);
     let words = plain_words(&plain);
     let imports = plain_imports(&plain).into_iter();
-    let unused = imports.filter(|import| !uses(&words, import.local));
+    let unused = imports.filter(|import| !uses(&words, &import.local));
     unused
-        .map(|import| source.at(import.line, complaint(import.local)))
+        .map(|import| source.at(import.line, complaint(&import.local)))
         .collect()
 }
 
@@ -65,10 +65,10 @@ mod tests {
 
     #[test]
     fn used_names_pass() {
-        let text = "use a.{b, _≡_, [], if_then_, c as d}\nuse a.E\nuse a.f as g\n\
+        let text = "use a.{b, ◌≡◌, [], if◌then◌, c as d}\nuse a.E\nuse a.f as g\n\
                     b : E.x ≡ g.y\nb = if (d []) then d";
         assert_eq!(names("x.antt", text), [""; 0]);
-        let text = "ghost use a.{b};\nuse c::D;\nfn f(x: D)\n    ensures { ⌜ b x ⌝ }\n{ x }";
+        let text = "ghost use a.{b};\nuse c::{D, e};\nfn f(x: D)\n    ensures { b x }\n{ e(x) }";
         assert_eq!(names("x.rt", text), [""; 0]);
         let text = "use a::B;\nfn f() {\n    for i in 0..B {}\n}";
         assert_eq!(names("x.rt", text), [""; 0]);
@@ -77,10 +77,10 @@ mod tests {
     #[test]
     fn unused_names_are_found() {
         let text =
-            "use a.{b, _∷_,\n  c as d, find}\nuse a.E\nuse a.f as g\n-- b d E g\nx = y .find c f.g";
-        assert_eq!(names("x.antt", text), ["b", "_∷_", "d", "find", "E", "g"]);
-        let text = "ghost use a.{b};\nuse c::D;\nuse c::f;\n\
-                    fn b(x: u8)\n    ensures { ⌜ D x ⌝ }\n{ x.f() } // f(x)";
+            "use a.{b, ◌∷◌,\n  c as d, find}\nuse a.E\nuse a.f as g\n-- b d E g\nx = (y.find z).find c f.g";
+        assert_eq!(names("x.antt", text), ["b", "◌∷◌", "d", "find", "E", "g"]);
+        let text = "ghost use a.{b};\nuse c::D;\nuse c::{f, g};\n\
+                    fn b(x: u8)\n    ensures { D x }\n{ x.f(); g(x) } // f(x)";
         assert_eq!(names("x.rt", text), ["b", "D", "f"]);
     }
 }

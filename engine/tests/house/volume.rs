@@ -1,5 +1,6 @@
 //! How many lines of proof there are for a line of code.
 
+use crate::code::is_handed;
 use crate::imports::import_lines;
 use crate::tree::{sources, Source};
 
@@ -19,13 +20,14 @@ fn is_code(path: &str) -> bool {
     path.split('/').nth(2) == Some("src")
 }
 
-/// The lines of a file that are neither blank nor comment nor import.
+/// The lines of a file that are neither blank nor comment nor import, nor tell
+/// the prover its tactics.
 fn volume(source: &Source) -> usize {
     let imports = import_lines(&source.text);
     let says = |(line, content): &(usize, &str)| {
         let content = content.trim_start();
         let comment = content.starts_with("--") || content.starts_with("//");
-        !content.is_empty() && !comment && !imports.contains(line)
+        !(content.is_empty() || comment || is_handed(content) || imports.contains(line))
     };
     source.lines().filter(says).count()
 }
@@ -54,7 +56,8 @@ fn proof_is_told_from_definitions() {
     for path in [
         "crates/protocol/specs/Laws/Kept/Names.antt",
         "crates/protocol/specs/Laws.antt",
-        "crates/steps/proofs/step/Proof.antt",
+        "crates/steps/proofs/step/Answers.antt",
+        "crates/steps/proofs/step/Invariants.antt",
         "crates/ordering/specs/Laws/First.antt",
     ] {
         assert!(is_proof(path), "{path}");
@@ -71,7 +74,7 @@ fn proof_is_told_from_definitions() {
 #[test]
 fn only_lines_that_say_something_count() {
     let antt = "-- a\nuse a.{\n  b,\n}\npub mod C\n\nf : A\n  -- b\nf = a -- c\n";
-    let code = "// a\nghost use a.{b};\nuse c::D;\nmod e;\n\nfn f() {\n    g() // h\n}\n";
+    let code = "// a\n#![tactic(auto)]\n\nghost use a.{b};\nuse c::D;\nmod e;\n\nfn f() {\n    g() // h\n}\n";
     let sources = [Source::of("x.antt", antt), Source::of("y.rt", code)];
     assert_eq!(total(&sources, |path| path == "x.antt"), 2);
     assert_eq!(total(&sources, |path| path == "y.rt"), 3);

@@ -10,7 +10,7 @@ pub struct Word<'a> {
 }
 
 /// What is a word by itself, whatever stands beside it.
-const BRACKETS: &str = "(){},;⌜⌝";
+const BRACKETS: &str = "(){},;";
 
 /// The words of a text, without comments and quoted text.
 pub fn words(text: &str) -> Vec<Word<'_>> {
@@ -57,11 +57,14 @@ pub fn head(word: &str) -> &str {
     word.split('.').next().unwrap_or(word)
 }
 
-/// What stands in a text where a name is used: `if` and `then` for `if_then_`,
-/// and any other name itself.
+/// What stands for an argument in the name of an operator.
+const GAP: char = '◌';
+
+/// What stands in a text where a name is used: `if` and `then` for
+/// `if◌then◌`, and any other name itself.
 pub fn signs(name: &str) -> Vec<&str> {
-    if name.len() > 1 && (name.starts_with('_') || name.ends_with('_')) {
-        return name.split('_').filter(|part| !part.is_empty()).collect();
+    if name.contains(GAP) {
+        return name.split(GAP).filter(|part| !part.is_empty()).collect();
     }
     vec![name]
 }
@@ -135,8 +138,8 @@ mod tests {
     #[test]
     fn brackets_and_comments_end_words() {
         assert_eq!(
-            texts("f (a-b′ .c){[]}-- d"),
-            ["f", "(", "a-b′", ".c", ")", "{", "[]", "}"]
+            texts("f (a-b′.c).d{[]}-- e"),
+            ["f", "(", "a-b′.c", ")", ".d", "{", "[]", "}"]
         );
         assert_eq!(texts("-- all of it\nf \"g -- h\" k"), ["f", "k"]);
         assert_eq!(words("\na").first().map(|word| word.line), Some(2));
@@ -144,7 +147,7 @@ mod tests {
 
     #[test]
     fn names_are_told_from_what_is_bound() {
-        assert_eq!(used_in("f .g"), ["f"]);
+        assert_eq!(used_in("(f g).h k.m"), ["(", "f", "g", ")", "k.m"]);
         assert_eq!(
             used_in("(a b : T) → {c : U}"),
             ["(", ":", "T", ")", "→", "{", ":", "U", "}"]
@@ -162,9 +165,9 @@ mod tests {
 
     #[test]
     fn an_operator_is_its_signs() {
-        assert_eq!(signs("if_then_"), ["if", "then"]);
+        assert_eq!(signs("if◌then◌"), ["if", "then"]);
         assert_eq!(
-            [signs("_≡_"), signs("a_b"), signs("_")],
+            [signs("◌≡◌"), signs("a_b"), signs("_")],
             [["≡"], ["a_b"], ["_"]]
         );
     }
