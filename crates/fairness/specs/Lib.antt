@@ -2,5 +2,3 @@
 -- a worked example. Paper 02, change 6.
 pub mod Sending
 pub mod Served
-pub mod Laws
-pub mod Worked

@@ -14,9 +14,9 @@ use Rattle.answer.specs.declared.Refusal.TheVariants.{Unsound, UnknownKind, CutS
 use Rattle.base.specs.Lists.{every, select, tally, up_from}
 use Rattle.broker.specs.Names
 use Rattle.broker.specs.State.{State, fresh, status, request, drawn_on, messages, next_vmid}
-use Rattle.fairness.specs.Laws.Named.{named_can_be_taken}
-use Rattle.fairness.specs.Laws.Sending.{kept_in_order}
-use Rattle.fairness.specs.Laws.Served.{look_names_first, served}
+use Rattle.fairness.proofs.Laws.Named.{named_can_be_taken}
+use Rattle.fairness.proofs.Laws.Sending.{kept_in_order}
+use Rattle.fairness.proofs.Laws.Served.{look_names_first, served}
 use Rattle.fairness.specs.Sending.{letters_sent, less_all_taken}
 use Rattle.fairness.specs.Served.{goes_by_looks, letters_taken}
 use Rattle.generator.specs.Answer.{makes}

@@ -45,7 +45,7 @@ use Rattle.protocol.specs.Step.{apply}
 use Rattle.record.specs.declared.Record.{Record}
 use Rattle.record.specs.declared.Record.TheVariants.{Start, Call, Route, Send, Take, Move, Heed, Drain, Land, Part, End, Look}
 use Rattle.ordering.specs.Claim.{Reading, Entry, after, accepted}
-use Rattle.fairness.specs.Laws.Sending.{step_letters, step_counts}
+use Rattle.fairness.proofs.Laws.Sending.{step_letters, step_counts}
 use Rattle.ordering.specs.Laws.Runs.{entry, along}
 use Rattle.fairness.specs.Sending.{first_in, second_in, letters, posted, counts_after, letters_sent, less_taken}
 use Rattle.fairness.specs.Served.{is_look_of, is_take_of, goes_by_looks, letters_taken, sent_since, Served}

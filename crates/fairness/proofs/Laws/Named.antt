@@ -23,7 +23,7 @@ use Rattle.protocol.specs.Sound.{sound}
 use Rattle.record.specs.declared.Record.TheVariants.{Take, Look}
 use Rattle.ordering.specs.Claim.{Reading, Entry, after, accepted}
 use Rattle.ordering.specs.Laws.Runs.{sound_after}
-use Rattle.fairness.specs.Laws.Served.{FirstFrom, own_take, look_names_first, served}
+use Rattle.fairness.proofs.Laws.Served.{FirstFrom, own_take, look_names_first, served}
 use Rattle.fairness.specs.Sending.{letters, letters_sent}
 use Rattle.fairness.specs.Served.{is_look_of, is_take_of, goes_by_looks, letters_taken}
 

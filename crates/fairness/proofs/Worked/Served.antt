@@ -13,7 +13,7 @@ use Rattle.record.specs.declared.Record.{Record}
 use Rattle.record.specs.declared.Record.TheVariants.{Start, Call, Route, Send, Take, Move, Heed, Drain, Land, Part, Look}
 use Rattle.ordering.specs.Claim.{Reading, after, accepted}
 use Rattle.ordering.specs.Laws.Runs.{fresh_sound, sound_after}
-use Rattle.fairness.specs.Laws.Served.{served}
+use Rattle.fairness.proofs.Laws.Served.{served}
 use Rattle.fairness.specs.Sending.{letters, letters_sent}
 use Rattle.fairness.specs.Served.{goes_by_looks, letters_taken, Served}
 use Rattle.ordering.specs.Worked.Account.{Account, account, computed, computed_from, from_fresh, from_sound}
