@@ -1,0 +1,10 @@
+-- The tests at what was read give the refusal of the definition. Assumes nothing.
+use Rattle.broker.specs.State.{with_unread}
+use Rattle.roster.specs.Roster.{ranks_of}
+use Rattle.kind_start.specs.Laws.Judged.{by_tests}
+use Rattle.kind_start.proofs.start_verdict.Goals as goal
+
+pub returns : goal.returns
+returns c = λ u.
+    rw (by_tests (with_unread u (ranks_of c.args.roster.now)) c.args.r c.args.host, c.start_checked.ensures)
+    (rw (c.drawn_on-drawn.ensures, c.standing_of-standing.ensures))
