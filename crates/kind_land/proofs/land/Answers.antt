@@ -1,0 +1,21 @@
+-- `kind_land::land` meets its contract: the arrival has the mover's list, and runs. Assumes nothing.
+use Rattle.std.proofs.Common.{ap, ◌∙◌}
+use Rattle.broker.specs.Names.{endpoint}
+use Rattle.broker.specs.State.{with_status}
+use Rattle.broker.specs.declared.process.Status.TheVariants.{Running}
+use Rattle.broker.specs.declared.process.Vmid.{Vmid}
+use Rattle.roster.specs.Roster.{ranks_of}
+use Rattle.kind_land.specs.Laws.Done.{land_done}
+use Rattle.kind_land.proofs.land.Goals as goal
+
+pub returns : goal.returns
+returns c = λ contents m.
+    let args = c.args in
+    let ranks = ranks_of args.roster.now in
+    let target = c.endpoint-target.ensures ∙ ap endpoint c.standing_of-standing.ensures in
+    let runs = c.set_standing.ensures.same ∙ ap (λ (v : Vmid). with_status args.r (Running v) ranks) target in
+    let listed = c.relabel_to-moved.ensures contents m in
+    record {
+      kept = record { mail = listed.kept; long = c.set_standing.ensures.long };
+      does = λ ok. rw c.widened.ensures (land_done ranks args.r listed runs (c.count_to-listed.ensures contents listed.kept));
+    }
