@@ -1,0 +1,15 @@
+use Rattle.std.proofs.Common.{ap, ◌∙◌}
+use Rattle.transit.specs.Laws.Promise.{relabelled_unread}
+use Rattle.transit.specs.Unread.{relabel_all}
+use Rattle.transit.specs.declared.Place.TheVariants.{SourceChannel, Channel}
+use Rattle.transit.specs.declared.Selection.TheVariants.{ToAt}
+use Rattle.kind_move_leaving.proofs.leave_behind.Goals as goal
+
+pub returns : goal.returns
+returns c = λ contents m.
+    let listed = c.relabel_to-listed.ensures contents m in
+    let both = c.relabel_to-on_channel.ensures contents listed.kept in
+    record {
+      kept = both.kept;
+      same = relabelled_unread both ∙ ap (relabel_all (ToAt c.args.r Channel) SourceChannel) (relabelled_unread listed);
+    }
