@@ -10,7 +10,7 @@ mod proved_program;
 #[path = "../shared/timing_program.rs"]
 mod timing_program;
 
-use feigned_program::root_with;
+use feigned_program::{place_in, root_with};
 use made_up_program::MADE_UP;
 use proved_program::{program_at, USUAL_PLACE};
 use std::ffi::OsStr;
@@ -58,7 +58,7 @@ fn bench(name: &str, programs: &[(&str, impl AsRef<OsStr>)]) -> Output {
 /// Some lines of shell as a program of this name.
 fn feigned(name: &str, lines: &str) -> PathBuf {
     let root = root_with(name, &[(name, lines)]);
-    root.join("target/bin").join(name)
+    place_in(&root, name)
 }
 
 /// The numbers of a table's row, without their commas.

@@ -27,19 +27,27 @@ struct Repository {
     folder: PathBuf,
 }
 
+/// It is called in the folder of a program's crate, says all on standard error,
+/// leaves something in each crate that it checks, and runs what it has built.
 const KIT: &str = r#"#!/bin/sh
-echo "$@" >>calls
-if [ -e broken ]; then
-    cat broken
+name=$(basename "$PWD")
+echo "$@, in $name" >>../../calls
+if [ -e ../../broken ]; then
+    cat ../../broken >&2
     exit 1
 fi
-echo "rt: base proved (1 s)"
-for line in 1 2 3 4 5 6 7 8 9; do echo "fn base::f$line: proved"; done
-echo "rt: $2 proved (2 s)"
-mkdir -p target/bin
-echo '#!/bin/sh' >"target/bin/$2"
-if [ "$2" = replay ]; then echo 'echo ran' >>"target/bin/$2"; fi
-chmod +x "target/bin/$2"
+for checked in base "$name"; do
+    mkdir -p "../$checked/out"
+    echo "rt: chose --jobs 2 for $checked"
+    for line in 1 2 3 4 5 6 7 8 9; do echo "fn $checked::f$line: proved"; done
+    echo "crate $checked: modules loaded=0 checked=40"
+    echo "logic=proved functions=9 statements=trusted"
+done >&2
+echo '#!/bin/sh' >"out/$name"
+if [ "$name" = replay ]; then echo 'echo ran' >>"out/$name"; fi
+chmod +x "out/$name"
+echo "rt: running out/$name; to give it other input, run that file yourself" >&2
+"out/$name"
 "#;
 
 impl Repository {
@@ -48,6 +56,7 @@ impl Repository {
         for part in [
             "kit",
             "crates/base/specs",
+            "crates/made_up/src",
             "crates/replay/src",
             "crates/generator/src",
         ] {
@@ -100,6 +109,8 @@ fn ran(said: &str) -> End {
     }
 }
 
+/// How the kit is called for the program, and what is said of it.
+const CALLED: &str = "run -- 1 0, in replay\n";
 const BUILT: &str = "building the program, some minutes where all is new; proved: base replay\n";
 
 #[test]
@@ -109,7 +120,7 @@ fn the_program_is_built_once() {
     for _ in 0..3 {
         assert_eq!(repository.with_kit(), ran(""));
     }
-    assert_eq!(repository.called(), "check replay\n");
+    assert_eq!(repository.called(), CALLED);
 }
 
 /// A text of a made-up pass needs the generator alone, and its replay both.
@@ -117,15 +128,15 @@ fn the_program_is_built_once() {
 fn only_what_a_request_needs_is_built() {
     let repository = Repository::new("needed");
     let (replayed, text) = (["--made", "1", "2"], ["--made", "1", "2", "--text"]);
-    let built = BUILT.replace("replay", "made_up");
+    let [built, made] = [BUILT, CALLED].map(|said| said.replace("replay", "made_up"));
     let nothing = |said: &str| End {
         printed: String::new(),
         ..ran(said)
     };
     assert_eq!(repository.asked(&text), nothing(&built));
-    assert_eq!(repository.called(), "check made_up\n");
+    assert_eq!(repository.called(), made);
     assert_eq!(repository.asked(&replayed), ran(BUILT));
-    assert_eq!(repository.called(), "check made_up\ncheck replay\n");
+    assert_eq!(repository.called(), format!("{made}{CALLED}"));
     repository.write("crates/generator/src/lib", "");
     assert_eq!(repository.with_kit(), ran(""));
     assert_eq!(repository.asked(&replayed), ran(&built));
@@ -151,7 +162,7 @@ fn a_change_of_the_sources_builds_anew() {
     }
     fs::remove_file(repository.folder.join("crates/base/specs/New")).unwrap();
     assert_eq!(repository.with_kit(), ran(BUILT));
-    fs::remove_file(repository.folder.join("target/bin/replay")).unwrap();
+    fs::remove_file(repository.folder.join("crates/replay/out/replay")).unwrap();
     assert_eq!(repository.with_kit(), ran(BUILT));
     assert_eq!(repository.calls(), 7);
 }
@@ -168,24 +179,28 @@ fn a_change_elsewhere_builds_nothing() {
 
 /// What the kit says of a failure, and what is shown of it.
 const FAILURE: &str = "\
-rt: base proved (unchanged since it was last proved)
-fn lines::put: proved
-crates/print_lines/src/lib.rt:1: error
-rt: lines NOT PROVED (exit 1, 2 s)
+rt: chose --jobs 2 for page
 fn page::put: proved
+statements std: modules loaded=5 checked=0
 library base: modules loaded=1 checked=0
+crate page: modules loaded=0 checked=40
 logic=proved functions=1
-rt: page proved (1 s)
-rt: replay NOT PROVED: its dependency lines is not proved
-rt: FAILED: lines replay
+rt: chose --jobs 2 for lines
+src/lib.rt:1: error
+fn lines::put: not proved
+statements std: modules loaded=5 checked=0
+crate lines: modules loaded=28 checked=12
+logic=not-proved
+only=0 proved=0
+rt: the library lines did not build, so nothing above it was checked
 ";
 const SHOWN: &str = "\
 building the program, some minutes where all is new; proved: page
 the program cannot be built:
-crates/print_lines/src/lib.rt:1: error
-rt: lines NOT PROVED (exit 1, 2 s)
-rt: replay NOT PROVED: its dependency lines is not proved
-rt: FAILED: lines replay
+src/lib.rt:1: error
+fn lines::put: not proved
+logic=not-proved
+rt: the library lines did not build, so nothing above it was checked
 ";
 
 #[test]

@@ -137,7 +137,8 @@ fn what_is_no_record_has_no_text() {
 
 #[test]
 fn a_run_is_that_of_the_two_programs() {
-    let Some(run) = shell_making_passes("target/bin/made_up 1 2000 | target/bin/replay") else {
+    let both = "crates/made_up/out/made_up 1 2000 | crates/replay/out/replay";
+    let Some(run) = shell_making_passes(both) else {
         return;
     };
     assert!(run.printed.lines().count() > 2_000);

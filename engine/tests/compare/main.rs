@@ -1,6 +1,6 @@
 //! Runs a second program on the same logs as this engine and compares what
 //! they print: paper 01, "The printed run", every byte of it. The program is
-//! the one that `REPLAY` names, else `../target/bin/replay`.
+//! the one that `REPLAY` names, else `../crates/replay/out/replay`.
 
 mod alike;
 #[path = "../shared/check_table.rs"]

@@ -2,7 +2,7 @@
 //! reader goes away: `./run` ends then, and the generator with it, however long
 //! the pass would be.
 
-use crate::feigned_program::root_with;
+use crate::feigned_program::{place_in, root_with};
 use crate::made_up_program::MADE_UP;
 use crate::peak_memory::peak_memory_kib;
 use crate::program::UNWRITABLE;
@@ -35,7 +35,8 @@ fn endless(name: &str, replay: &str, form: &[&str]) -> (PathBuf, Command) {
 
 /// Fails where the generator is still there.
 fn assert_no_generator(root: &Path) {
-    let number = fs::read_to_string(root.join("target/bin/made_up.number")).unwrap();
+    let place = place_in(root, "made_up").with_extension("number");
+    let number = fs::read_to_string(place).unwrap();
     let process = Path::new("/proc").join(number.trim());
     assert!(!process.exists(), "{} is left", process.display());
 }

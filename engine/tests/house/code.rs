@@ -241,11 +241,11 @@ fn f(x: D)
 
     #[test]
     fn contracts_are_told_from_code() {
-        let ghost = "ghost use a.{b};\n\n#[tactic(auto, using(crate::proofs::P::law))]\n\n x < 2 \n b\n  \
+        let ghost =
+            "ghost use a.{b};\n\n#[tactic(auto, using(crate::proofs::P::law))]\n\n x < 2 \n b\n  \
                      record { x = result } \n\n";
         assert_eq!(ghost_part(TEXT), ghost);
-        let plain =
-            "\nuse c::D; \n\nfn f(x: D)\n    requires {}\n    ensures named {\n}\n{ x }\n";
+        let plain = "\nuse c::D; \n\nfn f(x: D)\n    requires {}\n    ensures named {\n}\n{ x }\n";
         assert_eq!(plain_part(TEXT), plain);
     }
 

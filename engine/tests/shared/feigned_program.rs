@@ -15,16 +15,23 @@ pub fn put_program(place: &Path, script: &str) {
     assert!(install.status().unwrap().success());
 }
 
+/// Where the program of this name is below a repository's root.
+pub fn place_in(root: &Path, program: &str) -> PathBuf {
+    root.join("crates").join(program).join("out").join(program)
+}
+
 /// A repository's root of this name in which each of these proved programs is
 /// some lines of shell, and none is built anew.
 pub fn root_with(name: &str, programs: &[(&str, &str)]) -> PathBuf {
     let root = PathBuf::from(env!("CARGO_TARGET_TMPDIR")).join(name);
     let _ = fs::remove_dir_all(&root);
-    fs::create_dir_all(root.join("target/bin")).unwrap();
+    fs::create_dir_all(root.join("target")).unwrap();
     fs::write(root.join("crates.txt"), "").unwrap();
     for (program, lines) in programs {
         let script = format!("#!/bin/sh\n{lines}\n");
-        put_program(&root.join("target/bin").join(program), &script);
+        let place = place_in(&root, program);
+        fs::create_dir_all(place.parent().unwrap()).unwrap();
+        put_program(&place, &script);
         fs::write(root.join(format!("target/built-{program}")), "").unwrap();
     }
     root

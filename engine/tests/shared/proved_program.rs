@@ -6,7 +6,7 @@ use std::io::{self, Write};
 use std::path::PathBuf;
 
 /// Where the proved program is built.
-pub const USUAL_PLACE: &str = concat!(env!("CARGO_MANIFEST_DIR"), "/../target/bin/replay");
+pub const USUAL_PLACE: &str = concat!(env!("CARGO_MANIFEST_DIR"), "/../crates/replay/out/replay");
 
 /// The program at a place. Where there is none, this fails if
 /// `REPLAY_REQUIRED` is 1, and otherwise says that the test is skipped.

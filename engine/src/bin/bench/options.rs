@@ -77,12 +77,12 @@ impl Options {
 
 /// The program that is asked for, else the one of this name at its usual place.
 fn proved_program(asked: &Option<PathBuf>, name: &str) -> Result<PathBuf, String> {
-    let usual = || PathBuf::from(FOLDER).join("../target/bin").join(name);
+    let usual = || PathBuf::from(FOLDER).join(format!("../crates/{name}/out/{name}"));
     let program = asked.clone().unwrap_or_else(usual);
     if !program.is_file() {
         let place = program.display();
         return Err(format!(
-            "there is no program at {place}; 'rt check {name}' builds it"
+            "there is no program at {place}; 'rt run' in crates/{name} builds it"
         ));
     }
     Ok(program)

@@ -15,6 +15,13 @@ pub const REPLAY: &str = "replay";
 /// The crate of the program that writes the log of a made-up pass.
 pub const MADE_UP: &str = "made_up";
 
+/// The kit runs what it has built: a run of nothing, and a pass of no records.
+const OF_NOTHING: [&str; 2] = ["1", "0"];
+
+/// The folders of a crate that are read as it is built. Beside them the kit
+/// puts what it makes, in `out`.
+const READ: [&str; 3] = ["src", "specs", "proofs"];
+
 /// At most this many lines are shown of what went wrong.
 const SHOWN_OF_A_FAILURE: usize = 40;
 
@@ -45,7 +52,7 @@ pub fn proved_program(root: &Path, name: &str) -> Result<PathBuf, Failure> {
 
 /// Where the kit puts the program of a crate.
 fn program_of(root: &Path, name: &str) -> PathBuf {
-    root.join("target/bin").join(name)
+    root.join("crates").join(name).join("out").join(name)
 }
 
 /// The file whose time is that of a program's last build.
@@ -61,7 +68,8 @@ fn is_fresh(root: &Path, name: &str) -> bool {
     };
     program_of(root, name).is_file()
         && crates_of(root, name).is_some_and(|crates| {
-            let mut sources = crates.iter().map(|name| root.join("crates").join(name));
+            let folders = crates.iter().map(|name| root.join("crates").join(name));
+            let mut sources = folders.flat_map(|folder| READ.map(|part| folder.join(part)));
             !is_newer(&root.join("crates.txt"), since)
                 && !sources.any(|source| is_newer(&source, since))
         })
@@ -100,20 +108,22 @@ fn modified(path: &Path) -> io::Result<SystemTime> {
     fs::metadata(path)?.modified()
 }
 
-/// Builds a program. Its progress is a line of the crates that are proved.
+/// Builds a program. Its progress is a line of the crates that are proved. What
+/// the kit says comes on standard error, and what the program prints is left.
 fn build(root: &Path, name: &str) -> Result<(), Failure> {
     let mut rt = Command::new("rt")
-        .args(["check", name])
-        .current_dir(root)
+        .args(["run", "--"])
+        .args(OF_NOTHING)
+        .current_dir(root.join("crates").join(name))
         .stdin(Stdio::null())
-        .stdout(Stdio::piped())
-        .stderr(Stdio::inherit())
+        .stdout(Stdio::null())
+        .stderr(Stdio::piped())
         .spawn()
         .map_err(|error| match error.kind() {
             ErrorKind::NotFound => Failure::Told(NO_KIT.to_owned()),
             _ => Failure::Told(format!("rt cannot be run: {error}")),
         })?;
-    let said = BufReader::new(rt.stdout.take().expect("standard output is piped"));
+    let said = BufReader::new(rt.stderr.take().expect("standard error is piped"));
     let mut progress = Progress::default();
     for line in said.lines().map_while(Result::ok) {
         progress.heard(&line);
@@ -129,28 +139,31 @@ const NO_KIT: &str = "rt is not installed: the program is built with the kit of 
 #[derive(Default)]
 struct Progress {
     began: bool,
+    checked: String,
     wrong: Vec<String>,
 }
 
 impl Progress {
     fn heard(&mut self, line: &str) {
-        let proved = line
-            .strip_prefix("rt: ")
-            .and_then(|said| said.split_once(" proved ("));
-        match proved {
-            Some((_, how)) if how.starts_with("unchanged") => {}
-            Some((name, _)) => self.add(name),
-            None if self.wrong.len() == SHOWN_OF_A_FAILURE || goes_well(line) => {}
-            None => self.wrong.push(line.to_owned()),
+        let checked = line
+            .strip_prefix("crate ")
+            .and_then(|said| said.split_once(": modules loaded="));
+        if let Some((name, _)) = checked {
+            self.checked = name.to_owned();
+        } else if line.starts_with("logic=proved ") {
+            self.add();
+        } else if self.wrong.len() < SHOWN_OF_A_FAILURE && !goes_well(line) {
+            self.wrong.push(line.to_owned());
         }
     }
 
-    fn add(&mut self, name: &str) {
+    /// The crate that was checked last is proved.
+    fn add(&mut self) {
         if !self.began {
             say("building the program, some minutes where all is new; proved:");
             self.began = true;
         }
-        say(&format!(" {name}"));
+        say(&format!(" {}", self.checked));
     }
 
     fn end(self, proved: bool) -> Result<(), Failure> {
@@ -170,7 +183,16 @@ impl Progress {
 /// Whether a line of the kit says of a function, a library or the proof as a
 /// whole that all is well.
 fn goes_well(line: &str) -> bool {
-    let beginnings = ["library ", "logic /", "logic=proved", "linked ", "axioms "];
+    let beginnings = [
+        "library ",
+        "statements ",
+        "logic /",
+        "only=",
+        "linked ",
+        "axioms ",
+        "rt: chose ",
+        "rt: running ",
+    ];
     line.ends_with(": proved") || beginnings.iter().any(|first| line.starts_with(first))
 }
 
