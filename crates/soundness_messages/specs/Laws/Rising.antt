@@ -2,7 +2,7 @@
 -- after the one before it, as where numbers never fall, or rise within a most.
 -- Assumes nothing.
 use Rattle.std.specs.Prelude.{◌≡◌, refl, Bool, true, not, ◌&&◌, ◌||◌, List, [], ◌∷◌, map, ℕ, ◌<◌, eqb, leb, ltb, length, get_or, set, replicate}
-use Rattle.std.proofs.Common.{sym, ◌∙◌, arith, eqb-true, eq-eqb, leb-true, le-leb, get_or-set_same, get_or-set_other}
+use Rattle.std.proofs.Common.{sym, ◌∙◌, subst, arith, eqb-true, eq-eqb, leb-true, le-leb, get_or-set_same, get_or-set_other}
 use Rattle.std.proofs.Math.Bool.{and-false}
 use Rattle.std.proofs.lemmas.Bool.{eqb-false}
 use Rattle.std.proofs.Math.Dec.{leb-zero}
@@ -66,7 +66,7 @@ module _ {A : Type 0} (fits : A → Bool) (after : ℕ → ℕ → ℕ → Bool)
         by_test (eqb (cell_of x) k)
         (λ e.
         let same = get_or-set_same last (cell_of x) (number_of x) 0 (rw long (inside x fit)) in
-        rw (e, ← eqb-true (cell_of x) k e, same))
+        rw (e, subst (λ j. get_or (next last x) j 0 ≡ number_of x) (eqb-true (cell_of x) k e) same))
         (λ e. rw (e, get_or-set_other last (cell_of x) k (number_of x) 0 (λ same. eqb-false (cell_of x) k e (sym same))))
 
     -- Where the pass goes through, each element fits, and the numbers of each cell come in turn.
