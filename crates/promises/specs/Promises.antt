@@ -69,8 +69,8 @@ use Rattle.protocol.specs.Checks.{Check, checks, refusal}
 use Rattle.protocol.specs.Edges
 use Rattle.protocol.specs.Edges.{holds}
 use Rattle.protocol.specs.Laws.Checks.{given_is_first, first_is_given}
-use Rattle.protocol.specs.Laws.Edges.{edges_hold}
-use Rattle.protocol.specs.Laws.Restart.{
+use Rattle.protocol.proofs.Laws.Edges.{edges_hold}
+use Rattle.protocol.proofs.Laws.Restart.{
   never_eighteen,
   like_any_other,
   restart_draws,
@@ -78,15 +78,15 @@ use Rattle.protocol.specs.Laws.Restart.{
   restart_accepted,
   restart_carried_out,
 }
-use Rattle.protocol.specs.Laws.Step.{step_refused, step_accepted, step_of_sound, step_of_unsound, step_keeps_sound}
-use Rattle.protocol.specs.Laws.Values.{values_hold}
+use Rattle.protocol.proofs.Laws.Step.{step_refused, step_accepted, step_of_sound, step_of_unsound, step_keeps_sound}
+use Rattle.protocol.proofs.Laws.Values.{values_hold}
 use Rattle.protocol.specs.Messages as Messages
 use Rattle.protocol.specs.Messages.{unread_between, sent_between}
 use Rattle.protocol.specs.Migrate
 use Rattle.protocol.specs.Sound.{sound}
 use Rattle.protocol.specs.Step.{apply, step, step_sound, settle}
 use Rattle.protocol.specs.Values
-use Rattle.protocol.specs.Worked.Spent.{rows_in_order}
+use Rattle.protocol.proofs.Worked.Spent.{rows_in_order}
 use Rattle.replay_course.specs.Course.{Runs}
 use Rattle.replay_course.specs.Laws.Course.{runs_over, runs_too_long}
 use Rattle.replay_stage.specs.Stage.{given_of, taken_in, then_of, after_write}

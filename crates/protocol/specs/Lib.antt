@@ -10,4 +10,3 @@ pub mod Migrate
 pub mod Sound
 pub mod Step
 pub mod Values
-pub mod Worked

@@ -12,9 +12,9 @@ use Rattle.broker.specs.Names.{is_running}
 use Rattle.broker.specs.State.{State, status, connection, with_unread}
 use Rattle.broker.specs.declared.link.Connection.TheVariants.{Open}
 use Rattle.protocol.specs.Checks.{refusal}
-use Rattle.protocol.specs.Laws.Accepted.{Two, send_fits}
-use Rattle.protocol.specs.Laws.Accepts.{send_accepted}
-use Rattle.protocol.specs.Laws.Kept.{sound_kept}
+use Rattle.protocol.proofs.Laws.Accepted.{Two, send_fits}
+use Rattle.protocol.proofs.Laws.Accepts.{send_accepted}
+use Rattle.protocol.proofs.Laws.Kept.{sound_kept}
 use Rattle.protocol.specs.Messages.{send, sent_between}
 use Rattle.protocol.specs.Sound.{sound}
 use Rattle.protocol.specs.Step.{apply}

@@ -14,8 +14,8 @@ use Rattle.transit.specs.declared.Rank.{Rank}
 use Rattle.broker.specs.Names.{is_running, is_started}
 use Rattle.broker.specs.State.{State, status, messages}
 use Rattle.protocol.specs.Checks.{refusal}
-use Rattle.protocol.specs.Laws.Accepted.{started_of_running}
-use Rattle.protocol.specs.Laws.Accepts.{take_accepted}
+use Rattle.protocol.proofs.Laws.Accepted.{started_of_running}
+use Rattle.protocol.proofs.Laws.Accepts.{take_accepted}
 use Rattle.protocol.specs.Laws.Sound.{facts, is_named, has_ends}
 use Rattle.protocol.specs.Laws.State.{same_rank_eq, same_rank_self, same_rank_turned}
 use Rattle.protocol.specs.Messages.{look, take, oldest_sender}

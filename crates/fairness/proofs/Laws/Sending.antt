@@ -10,9 +10,9 @@ use Rattle.transit.specs.Message.{letter, between}
 use Rattle.transit.specs.declared.Message.{Message}
 use Rattle.transit.specs.declared.Rank.{Rank}
 use Rattle.protocol.specs.Checks.{refusal}
-use Rattle.protocol.specs.Laws.Accepted.{take_fits}
+use Rattle.protocol.proofs.Laws.Accepted.{take_fits}
 use Rattle.protocol.specs.Laws.Core.{Core, core, core_step}
-use Rattle.protocol.specs.Laws.CoreStep.{core_step_lem}
+use Rattle.protocol.proofs.Laws.CoreStep.{core_step_lem}
 use Rattle.protocol.specs.Sound.{sound}
 use Rattle.broker.specs.State.{State, messages}
 use Rattle.protocol.specs.Step.{apply}

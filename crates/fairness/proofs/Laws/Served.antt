@@ -33,9 +33,9 @@ use Rattle.transit.specs.declared.Rank.{Rank}
 use Rattle.record.specs.Kind
 use Rattle.record.specs.Parts.{is}
 use Rattle.protocol.specs.Checks.{refusal}
-use Rattle.protocol.specs.Laws.Accepted.{take_fits, look_fits}
+use Rattle.protocol.proofs.Laws.Accepted.{take_fits, look_fits}
 use Rattle.protocol.specs.Laws.Core.{Core}
-use Rattle.protocol.specs.Laws.CoreStep.{core_step_lem, take_letter}
+use Rattle.protocol.proofs.Laws.CoreStep.{core_step_lem, take_letter}
 use Rattle.protocol.specs.Laws.Links.{receiver_of}
 use Rattle.protocol.specs.Laws.State.{same_rank_eq, same_rank_self}
 use Rattle.protocol.specs.Messages.{look, take}

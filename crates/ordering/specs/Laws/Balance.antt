@@ -16,9 +16,9 @@ use Rattle.transit.specs.declared.Place.TheVariants.{EndList}
 use Rattle.transit.specs.declared.Rank.{Rank}
 use Rattle.transit.specs.declared.Selection.TheVariants.{Between}
 use Rattle.protocol.specs.Checks.{refusal}
-use Rattle.protocol.specs.Laws.Accepted.{TakeFits, take_fits}
+use Rattle.protocol.proofs.Laws.Accepted.{TakeFits, take_fits}
 use Rattle.protocol.specs.Laws.Core.{Core, core, core_step, each_between, unread_each}
-use Rattle.protocol.specs.Laws.CoreStep.{core_step_lem}
+use Rattle.protocol.proofs.Laws.CoreStep.{core_step_lem}
 use Rattle.protocol.specs.Laws.State.{same_rank_eq, same_rank_self}
 use Rattle.record.specs.Record.{decode}
 use Rattle.protocol.specs.Sound.{sound}

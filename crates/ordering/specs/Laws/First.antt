@@ -1,7 +1,7 @@
 -- The first half of the ordering claim: taken values, then unread ones, are the values sent. Assumes nothing.
 use Rattle.std.specs.Prelude.{refl, List, [], ◌∷◌, ◌++◌, ℕ}
 use Rattle.std.proofs.Common.{sym, ap, ◌∙◌, map-id}
-use Rattle.protocol.specs.Laws.CoreStep.{take_value}
+use Rattle.protocol.proofs.Laws.CoreStep.{take_value}
 use Rattle.broker.specs.State.{fresh}
 use Rattle.protocol.specs.Step.{apply}
 use Rattle.ordering.specs.Claim.{sent, FirstHalf}

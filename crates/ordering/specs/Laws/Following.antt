@@ -7,8 +7,8 @@ use Rattle.base.specs.Laws.Tests.{both}
 use Rattle.transit.specs.declared.Rank.{Rank}
 use Rattle.protocol.specs.Checks.{refusal}
 use Rattle.protocol.specs.Laws.Core.{Core, core}
-use Rattle.protocol.specs.Laws.Quiet.{Quiet}
-use Rattle.protocol.specs.Laws.Step.{step_accepted}
+use Rattle.protocol.proofs.Laws.Quiet.{Quiet}
+use Rattle.protocol.proofs.Laws.Step.{step_accepted}
 use Rattle.record.specs.Record.{decode}
 use Rattle.protocol.specs.Sound.{sound}
 use Rattle.broker.specs.State.{State}

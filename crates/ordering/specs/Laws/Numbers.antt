@@ -10,9 +10,9 @@ use Rattle.transit.specs.Message.{is_same_rank, ranks, cells}
 use Rattle.transit.specs.Unread.{sent_at}
 use Rattle.transit.specs.declared.Rank.{Rank}
 use Rattle.protocol.specs.Checks.{refusal}
-use Rattle.protocol.specs.Laws.Accepted.{send_fits}
+use Rattle.protocol.proofs.Laws.Accepted.{send_fits}
 use Rattle.protocol.specs.Laws.Core.{Core, core, core_step}
-use Rattle.protocol.specs.Laws.CoreStep.{core_step_lem, take_sequence}
+use Rattle.protocol.proofs.Laws.CoreStep.{core_step_lem, take_sequence}
 use Rattle.protocol.specs.Laws.Sound.{facts}
 use Rattle.protocol.specs.Laws.State.{same_rank_eq, cell_below, sent_after}
 use Rattle.protocol.specs.Messages.{sent_between}

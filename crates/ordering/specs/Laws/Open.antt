@@ -5,7 +5,7 @@ use Rattle.std.proofs.Common.{ap, ◌∙◌}
 use Rattle.std.proofs.Math.Path.{fun_ext}
 use Rattle.transit.specs.Message.{ranks}
 use Rattle.transit.specs.declared.Rank.{Rank}
-use Rattle.protocol.specs.Laws.Migrating.{open_after, migrating_step}
+use Rattle.protocol.proofs.Laws.Migrating.{open_after, migrating_step}
 use Rattle.broker.specs.Names.{is_migrating}
 use Rattle.broker.specs.Ranks.{every_rank}
 use Rattle.protocol.specs.Sound.{sound}

@@ -6,9 +6,9 @@ use Rattle.std.proofs.Math.Option.{none}
 use Rattle.base.specs.Laws.Tests.{by_test, true_of}
 use Rattle.transit.specs.declared.Rank.{Rank}
 use Rattle.protocol.specs.Checks.{refusal}
-use Rattle.protocol.specs.Laws.Edges.{fresh_is_sound}
-use Rattle.protocol.specs.Laws.Kept.{sound_kept}
-use Rattle.protocol.specs.Laws.Step.{Course, turned_away, carried_out, course, past_record, step_accepted}
+use Rattle.protocol.proofs.Laws.Edges.{fresh_is_sound}
+use Rattle.protocol.proofs.Laws.Kept.{sound_kept}
+use Rattle.protocol.proofs.Laws.Step.{Course, turned_away, carried_out, course, past_record, step_accepted}
 use Rattle.record.specs.Record.{decode}
 use Rattle.protocol.specs.Sound.{sound}
 use Rattle.broker.specs.State.{State, fresh}

@@ -8,10 +8,10 @@ use Rattle.std.proofs.lemmas.List.{get_or-replicate}
 use Rattle.base.specs.Laws.Tests.{both_left, both_right}
 use Rattle.transit.specs.Message.{ranks, cells}
 use Rattle.protocol.specs.Checks.{refusal}
-use Rattle.protocol.specs.Laws.Alike.{settled_unless_migrating, status_alike, same_standings}
+use Rattle.protocol.proofs.Laws.Alike.{settled_unless_migrating, status_alike, same_standings}
 use Rattle.protocol.specs.Laws.Core.{core, core_step, values_between, unread_each}
-use Rattle.protocol.specs.Laws.CoreStep.{core_step_lem}
-use Rattle.protocol.specs.Laws.Quiet.{Quiet}
+use Rattle.protocol.proofs.Laws.CoreStep.{core_step_lem}
+use Rattle.protocol.proofs.Laws.Quiet.{Quiet}
 use Rattle.protocol.specs.Laws.Ranks.{every_rank_at}
 use Rattle.protocol.specs.Laws.State.{cell_below}
 use Rattle.broker.specs.Names.{is_migrating}

@@ -8,12 +8,12 @@ use Rattle.base.specs.Laws.Tests.{by_test}
 use Rattle.transit.specs.declared.Rank.{Rank}
 use Rattle.protocol.specs.Checks.{refusal}
 use Rattle.record.specs.Kind
-use Rattle.protocol.specs.Laws.Accepted.{Two, send_fits}
-use Rattle.protocol.specs.Laws.Alike.{call_before, route_before, send_again, part_behind, receiver_runs, status_alike, same_standings}
+use Rattle.protocol.proofs.Laws.Accepted.{Two, send_fits}
+use Rattle.protocol.proofs.Laws.Alike.{call_before, route_before, send_again, part_behind, receiver_runs, status_alike, same_standings}
 use Rattle.protocol.specs.Laws.Core.{Core, core, core_step}
-use Rattle.protocol.specs.Laws.CoreStep.{core_step_lem}
-use Rattle.protocol.specs.Laws.Kept.{sound_kept}
-use Rattle.protocol.specs.Laws.Quiet.{Calling, Joined, Quiet, same_vmid_self, call_calm, route_corrects, route_joins, send_calm, part_calm}
+use Rattle.protocol.proofs.Laws.CoreStep.{core_step_lem}
+use Rattle.protocol.proofs.Laws.Kept.{sound_kept}
+use Rattle.protocol.proofs.Laws.Quiet.{Calling, Joined, Quiet, same_vmid_self, call_calm, route_corrects, route_joins, send_calm, part_calm}
 use Rattle.broker.specs.Names.{same_vmid, endpoint, is_ended}
 use Rattle.record.specs.Record.{decode, record_of}
 use Rattle.protocol.specs.Sound.{sound}

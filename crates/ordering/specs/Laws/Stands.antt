@@ -9,12 +9,12 @@ use Rattle.base.specs.Laws.Tests.{both}
 use Rattle.transit.specs.declared.Rank.{Rank}
 use Rattle.protocol.specs.Checks.{refusal}
 use Rattle.record.specs.Kind
-use Rattle.protocol.specs.Laws.Accepted.{start_fits, take_fits, move_fits, end_fits}
-use Rattle.protocol.specs.Laws.Alike.{start_again, take_again, move_again, end_again, land_after}
+use Rattle.protocol.proofs.Laws.Accepted.{start_fits, take_fits, move_fits, end_fits}
+use Rattle.protocol.proofs.Laws.Alike.{start_again, take_again, move_again, end_again, land_after}
 use Rattle.protocol.specs.Laws.Core.{Core, core, core_step, values_between, sequences_between}
-use Rattle.protocol.specs.Laws.CoreStep.{core_step_lem, take_value, take_sequence}
-use Rattle.protocol.specs.Laws.Kept.{sound_kept}
-use Rattle.protocol.specs.Laws.Quiet.{AllQuiet, Moving, Quiet, start_calm, take_calm, end_calm, move_calm, land_calm}
+use Rattle.protocol.proofs.Laws.CoreStep.{core_step_lem, take_value, take_sequence}
+use Rattle.protocol.proofs.Laws.Kept.{sound_kept}
+use Rattle.protocol.proofs.Laws.Quiet.{AllQuiet, Moving, Quiet, start_calm, take_calm, end_calm, move_calm, land_calm}
 use Rattle.protocol.specs.Laws.State.{same_rank_self}
 use Rattle.transit.specs.Message.{ranks}
 use Rattle.record.specs.Record.{decode, record_of}

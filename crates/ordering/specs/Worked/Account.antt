@@ -2,7 +2,7 @@
 use Rattle.std.specs.Prelude.{◌≡◌, refl, Bool, true, ◌&&◌, List, [], ◌∷◌, ◌++◌}
 use Rattle.std.proofs.Common.{ap, ◌∙◌}
 use Rattle.protocol.specs.Laws.Opened.{opened}
-use Rattle.protocol.specs.Laws.Step.{step_of_sound, step_keeps_sound}
+use Rattle.protocol.proofs.Laws.Step.{step_of_sound, step_keeps_sound}
 use Rattle.record.specs.Record.{decode}
 use Rattle.protocol.specs.Sound.{sound}
 use Rattle.broker.specs.State.{State, fresh}

@@ -11,10 +11,10 @@ use Rattle.transit.specs.Unread.{Unread, AfterAppend, limit, nothing}
 use Rattle.transit.specs.declared.Message.{Message}
 use Rattle.transit.specs.declared.Place.TheVariants.{Channel}
 use Rattle.transit.specs.declared.Rank.{Rank}
-use Rattle.protocol.specs.Laws.Accepted.{SendFits}
-use Rattle.protocol.specs.Laws.Accepts.{send_accepted}
+use Rattle.protocol.proofs.Laws.Accepted.{SendFits}
+use Rattle.protocol.proofs.Laws.Accepts.{send_accepted}
 use Rattle.protocol.specs.Laws.Opened.{opened}
-use Rattle.protocol.specs.Laws.Step.{step_accepted, step_of_sound, step_keeps_sound}
+use Rattle.protocol.proofs.Laws.Step.{step_accepted, step_of_sound, step_keeps_sound}
 use Rattle.protocol.specs.Messages.{send, unread_between}
 use Rattle.record.specs.Record.{decode, record_of}
 use Rattle.protocol.specs.Sound.{sound}

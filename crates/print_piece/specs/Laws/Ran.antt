@@ -5,7 +5,7 @@ use Rattle.std.proofs.lemmas.List.{drop-append-le}
 use Rattle.print_page.specs.Laws.Put.{shows}
 use Rattle.print_page.specs.Put.{Put}
 use Rattle.print_lines.specs.Lines.{record_line, record_room}
-use Rattle.protocol.specs.Laws.Restart.{never_eighteen}
+use Rattle.protocol.proofs.Laws.Restart.{never_eighteen}
 use Rattle.record.specs.Record.{decode}
 use Rattle.protocol.specs.Sound.{sound}
 use Rattle.broker.specs.State.{State}

@@ -9,7 +9,7 @@ use Rattle.std.proofs.Math.Dec.{ltb}
 use Rattle.base.specs.Laws.Tests.{by_test, fails_right}
 use Rattle.answer.specs.Answer.{refusal_number}
 use Rattle.protocol.specs.Checks.{refusal, checks}
-use Rattle.protocol.specs.Laws.Step.{checks_pass_record, step_of_sound, step_keeps_sound}
+use Rattle.protocol.proofs.Laws.Step.{checks_pass_record, step_of_sound, step_keeps_sound}
 use Rattle.record.specs.Record.{decode}
 use Rattle.protocol.specs.Sound.{sound}
 use Rattle.broker.specs.State.{State}

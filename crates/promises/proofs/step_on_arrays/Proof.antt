@@ -3,7 +3,7 @@ use mathlib.Core.Path.{sym, ◌∙◌}
 use borrow.Author.Rules.{rules}
 use Rattle.answer.specs.Answer.{NeverEighteen}
 use Rattle.desk.specs.Desk.{desk_of}
-use Rattle.protocol.specs.Laws.Step.{step_of_sound}
+use Rattle.protocol.proofs.Laws.Step.{step_of_sound}
 use Rattle.promises.proofs.step_on_arrays.Statement.{statement}
 use Rattle.promises.proofs.step_on_arrays.Tie as tie
 

@@ -11,8 +11,8 @@ use Rattle.broker.specs.State.{State, status, messages}
 use Rattle.ordering.specs.Claim.{Entry}
 use Rattle.fairness.specs.Served.{goes_by_looks}
 use Rattle.protocol.specs.Checks.{refusal}
-use Rattle.protocol.specs.Laws.Accepted.{look_fits, started_of_running}
-use Rattle.protocol.specs.Laws.Accepts.{look_accepted}
+use Rattle.protocol.proofs.Laws.Accepted.{look_fits, started_of_running}
+use Rattle.protocol.proofs.Laws.Accepts.{look_accepted}
 use Rattle.protocol.specs.Laws.State.{same_rank_self}
 use Rattle.record.specs.Parts.{kind_of, is}
 use Rattle.record.specs.declared.Record.TheVariants.{Take, Look}

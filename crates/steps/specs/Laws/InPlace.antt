@@ -1,7 +1,7 @@
 -- A step on arrays that hold a state is a step of it. Assumes nothing.
 use Rattle.std.specs.Prelude.{◌≡◌, true, List, ℕ}
 use Rattle.std.proofs.Common.{sym, subst, ◌∙◌}
-use Rattle.protocol.specs.Laws.Step.{step_of_sound}
+use Rattle.protocol.proofs.Laws.Step.{step_of_sound}
 use Rattle.protocol.specs.Sound.{sound}
 use Rattle.broker.specs.State.{State}
 use Rattle.protocol.specs.Step.{step, step_sound}

@@ -1,7 +1,7 @@
 -- What a refusal leaves. Assumes nothing.
 use Rattle.std.specs.Prelude.{◌≡◌, List, ℕ}
 use Rattle.std.proofs.Common.{sym, ap, ◌∙◌, arith}
-use Rattle.protocol.specs.Laws.Step.{step_refused}
+use Rattle.protocol.proofs.Laws.Step.{step_refused}
 use Rattle.broker.specs.State.{State}
 use Rattle.protocol.specs.Step.{Outcome, step}
 use Rattle.answer.specs.declared.Answer.{Answer}

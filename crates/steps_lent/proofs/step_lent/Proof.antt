@@ -85,7 +85,7 @@ use denote.Triple.Walked.{
 }
 use denote.Exit.{yes}
 use Rattle.answer.specs.Answer.{NeverEighteen}
-use Rattle.protocol.specs.Laws.Restart.{never_eighteen}
+use Rattle.protocol.proofs.Laws.Restart.{never_eighteen}
 use Rattle.broker.specs.State.{view}
 use Rattle.protocol.specs.Step.{step}
 use Rattle.broker.specs.declared.state.Broker.{Broker}

@@ -4,7 +4,7 @@ use Rattle.std.proofs.Common.{ap, ◌∙◌}
 use Rattle.protocol.specs.Edges.{Try, Edge, plays, holds, A, B, C, D, E, F, G, G_lands, H, I, J, EdgesHold}
 use Rattle.base.specs.Laws.Tests.{true_of}
 use Rattle.protocol.specs.Laws.Opened.{opened, opened_sound}
-use Rattle.protocol.specs.Laws.Step.{step_of_sound, step_keeps_sound}
+use Rattle.protocol.proofs.Laws.Step.{step_of_sound, step_keeps_sound}
 use Rattle.protocol.specs.Sound
 use Rattle.broker.specs.State.{State, fresh}
 use Rattle.protocol.specs.Step.{Outcome, step, step_sound}

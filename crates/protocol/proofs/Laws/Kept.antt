@@ -9,9 +9,9 @@ use Rattle.std.specs.Prelude.{◌≡◌, true}
 use Rattle.std.proofs.Math.Option.{none}
 use Rattle.protocol.specs.Checks.{refusal}
 use Rattle.protocol.specs.Laws.Fit.{ends_from_fits, unheeded_from_fits, places_from_fits}
-use Rattle.protocol.specs.Laws.Kept.Names.{names_kept}
-use Rattle.protocol.specs.Laws.Kept.Shape.{shape_kept}
-use Rattle.protocol.specs.Laws.Kept.Views.{views_kept}
+use Rattle.protocol.proofs.Laws.Kept.Names.{names_kept}
+use Rattle.protocol.proofs.Laws.Kept.Shape.{shape_kept}
+use Rattle.protocol.proofs.Laws.Kept.Views.{views_kept}
 use Rattle.protocol.specs.Laws.Sound.{Facts, facts, of_facts}
 use Rattle.protocol.specs.Sound.{sound}
 use Rattle.broker.specs.State.{State, messages}

@@ -12,7 +12,7 @@ use Rattle.transit.specs.Unread.{limit, most_sent, sent_at}
 use Rattle.transit.specs.declared.Message.{Message}
 use Rattle.transit.specs.declared.Rank.{Rank}
 use Rattle.protocol.specs.Checks.{refusal}
-use Rattle.protocol.specs.Laws.Accepted.{
+use Rattle.protocol.proofs.Laws.Accepted.{
   One,
   Two,
   SendFits,
@@ -24,7 +24,7 @@ use Rattle.protocol.specs.Laws.Accepted.{
   started_of_migrating,
   running_not_ended,
 }
-use Rattle.protocol.specs.Laws.Accepts.{
+use Rattle.protocol.proofs.Laws.Accepts.{
   start_accepted,
   call_accepted,
   route_accepted,
@@ -37,7 +37,7 @@ use Rattle.protocol.specs.Laws.Accepts.{
 }
 use Rattle.protocol.specs.Laws.Core.{Core, core, settled, core_status}
 use Rattle.protocol.specs.Laws.Fit.{tested_pair, stands, pair_fits_lem}
-use Rattle.protocol.specs.Laws.Quiet.{Calm, AllQuiet, Moving, Calling, Joined, nobody}
+use Rattle.protocol.proofs.Laws.Quiet.{Calm, AllQuiet, Moving, Calling, Joined, nobody}
 use Rattle.protocol.specs.Laws.Sound.{facts}
 use Rattle.protocol.specs.Laws.State.{same_rank_self}
 use Rattle.protocol.specs.Laws.View.{side, pair_fits}

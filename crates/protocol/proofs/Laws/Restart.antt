@@ -10,11 +10,11 @@ use Rattle.transit.specs.Message.{ranks}
 use Rattle.transit.specs.declared.Rank.{Rank}
 use Rattle.answer.specs.Answer.{refusal_number, NeverEighteen}
 use Rattle.protocol.specs.Checks.{refusal}
-use Rattle.protocol.specs.Laws.Accepts.{move_accepted}
+use Rattle.protocol.proofs.Laws.Accepts.{move_accepted}
 use Rattle.protocol.specs.Laws.Names.{drawn_number}
 use Rattle.protocol.specs.Laws.Opened.{opened_checks}
 use Rattle.protocol.specs.Laws.Sound.{facts}
-use Rattle.protocol.specs.Laws.Step.{carried, step_accepted}
+use Rattle.protocol.proofs.Laws.Step.{carried, step_accepted}
 use Rattle.protocol.specs.Migrate.{move}
 use Rattle.broker.specs.Names.{hosts, numbers, same_vmid, is_open_request}
 use Rattle.record.specs.Record.{decode}

@@ -6,7 +6,7 @@ use Rattle.std.proofs.Common.{lt-ltb}
 use Rattle.std.proofs.lemmas.Bool.{lt-leb}
 use Rattle.transit.specs.declared.Rank.{Rank}
 use Rattle.protocol.specs.Checks.{refusal}
-use Rattle.protocol.specs.Laws.Accepted.{
+use Rattle.protocol.proofs.Laws.Accepted.{
   StartFits,
   CallFits,
   RouteFits,

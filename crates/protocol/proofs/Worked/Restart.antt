@@ -6,8 +6,8 @@ use Rattle.transit.specs.Message.{rank}
 use Rattle.protocol.specs.Checks.{refusal}
 use Rattle.record.specs.Kind
 use Rattle.protocol.specs.Laws.Opened.{opened_sound}
-use Rattle.protocol.specs.Laws.Restart.{like_any_other, restart_draws, restart_apart, restart_accepted, restart_carried_out}
-use Rattle.protocol.specs.Laws.Step.{carried}
+use Rattle.protocol.proofs.Laws.Restart.{like_any_other, restart_draws, restart_apart, restart_accepted, restart_carried_out}
+use Rattle.protocol.proofs.Laws.Step.{carried}
 use Rattle.protocol.specs.Life.{announced, start}
 use Rattle.protocol.specs.Migrate.{move}
 use Rattle.broker.specs.Names.{numbers, vmid, same_vmid}

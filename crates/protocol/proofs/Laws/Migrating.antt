@@ -11,7 +11,7 @@ use Rattle.protocol.specs.Checks.{refusal}
 use Rattle.record.specs.Parts.{is, of_first}
 use Rattle.protocol.specs.Connect.{part}
 use Rattle.record.specs.Kind
-use Rattle.protocol.specs.Laws.Accepted.{start_fits, move_fits, land_fits, end_fits, running_not_migrating, started_of_migrating}
+use Rattle.protocol.proofs.Laws.Accepted.{start_fits, move_fits, land_fits, end_fits, running_not_migrating, started_of_migrating}
 use Rattle.protocol.specs.Laws.Cases.{drain_cases}
 use Rattle.protocol.specs.Laws.Sound.{facts}
 use Rattle.protocol.specs.Laws.Standings.{call_unseen, route_unseen}

@@ -10,7 +10,7 @@ use Rattle.transit.specs.Message.{is_same_rank, is_rank, ranks, cells}
 use Rattle.transit.specs.Unread.{Unread}
 use Rattle.transit.specs.declared.Rank.{Rank}
 use Rattle.protocol.specs.Connect.{call, part, withdraw}
-use Rattle.protocol.specs.Laws.Accepted.{
+use Rattle.protocol.proofs.Laws.Accepted.{
   One,
   start_fits,
   call_fits,
@@ -25,7 +25,7 @@ use Rattle.protocol.specs.Laws.Cases.{chosen_at, route_cases, drain_cases}
 use Rattle.protocol.specs.Checks.{refusal}
 use Rattle.base.specs.Laws.Stores.{long_set}
 use Rattle.protocol.specs.Laws.Each.{announced_own, announced_other}
-use Rattle.protocol.specs.Laws.Kept.Shape.{shape_with_locations, shape_with_drawn, shape_connect, shape_withdraw}
+use Rattle.protocol.proofs.Laws.Kept.Shape.{shape_with_locations, shape_with_drawn, shape_connect, shape_withdraw}
 use Rattle.protocol.specs.Laws.Names.{
   same_vmid_swap,
   none_shared_swap,

@@ -20,7 +20,7 @@ use Rattle.transit.specs.declared.Rank.{Rank}
 use Rattle.transit.specs.declared.Selection.TheVariants.{Between}
 use Rattle.protocol.specs.Checks.{refusal}
 use Rattle.protocol.specs.Connect.{part}
-use Rattle.protocol.specs.Laws.Accepted.{TakeFits, send_fits, take_fits, land_fits}
+use Rattle.protocol.proofs.Laws.Accepted.{TakeFits, send_fits, take_fits, land_fits}
 use Rattle.protocol.specs.Laws.Cases.{drain_cases}
 use Rattle.protocol.specs.Laws.Core.{
   core,

@@ -8,7 +8,7 @@ use Rattle.base.specs.Laws.Tests.{by_test, both_left, not_both, or_right, same_e
 use Rattle.transit.specs.Message.{is_same_rank, ranks, cells}
 use Rattle.transit.specs.declared.Rank.{Rank}
 use Rattle.protocol.specs.Connect.{call, part, route_to_ended, route_there, route_on, withdraw, connect_both}
-use Rattle.protocol.specs.Laws.Accepted.{
+use Rattle.protocol.proofs.Laws.Accepted.{
   StartFits,
   CallFits,
   RouteFits,

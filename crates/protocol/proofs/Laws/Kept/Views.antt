@@ -32,7 +32,7 @@ use Rattle.transit.specs.declared.Place.TheVariants.{SourceList, SourceChannel, 
 use Rattle.transit.specs.declared.Rank.{Rank}
 use Rattle.transit.specs.declared.Selection.TheVariants.{ToAt, Between}
 use Rattle.protocol.specs.Connect.{call, route, part, on_channel}
-use Rattle.protocol.specs.Laws.Accepted
+use Rattle.protocol.proofs.Laws.Accepted
 use Rattle.protocol.specs.Laws.Changes.{shift}
 use Rattle.protocol.specs.Laws.Effect.{Effect, pairs_stay, placed_anew, Unbarred, messages_stay, order_stays}
 use Rattle.protocol.specs.Laws.Fit.{
@@ -46,8 +46,8 @@ use Rattle.protocol.specs.Laws.Fit.{
   messages_fit,
   fits,
 }
-use Rattle.protocol.specs.Laws.Kept.Effects
-use Rattle.protocol.specs.Laws.Kept.Order.{InOrder, append_keeps, without_keeps, first_keeps}
+use Rattle.protocol.proofs.Laws.Kept.Effects
+use Rattle.protocol.proofs.Laws.Kept.Order.{InOrder, append_keeps, without_keeps, first_keeps}
 use Rattle.protocol.specs.Laws.Links.{sender_of, receiver_of}
 use Rattle.protocol.specs.Laws.Sound.{Facts, Pairs}
 use Rattle.protocol.specs.Laws.Standings.{route_unseen}

@@ -10,7 +10,7 @@ use Rattle.protocol.specs.Checks.{Check, checks, refusal}
 use Rattle.protocol.specs.Connect.{connect_both}
 use Rattle.protocol.specs.Edges.{Try, plays, answers, refuses}
 use Rattle.record.specs.Kind
-use Rattle.protocol.specs.Laws.Edges.{plays_sound}
+use Rattle.protocol.proofs.Laws.Edges.{plays_sound}
 use Rattle.protocol.specs.Laws.Opened.{opened, opened_checks, opened_sound}
 use Rattle.protocol.specs.Life.{announced, start}
 use Rattle.protocol.specs.Messages.{sent_between}

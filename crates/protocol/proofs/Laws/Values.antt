@@ -1,6 +1,6 @@
 -- Each kind of step answers the values that the worked runs show, computed from the definitions. Assumes nothing.
 use Rattle.std.specs.Prelude.{refl}
-use Rattle.protocol.specs.Laws.Edges.{by_computing}
+use Rattle.protocol.proofs.Laws.Edges.{by_computing}
 use Rattle.protocol.specs.Laws.Opened.{opened}
 use Rattle.protocol.specs.Values
 

@@ -8,7 +8,7 @@ use Rattle.base.specs.Laws.Tests.{by_test, both_left, both_right}
 use Rattle.base.specs.Lists.{every}
 use Rattle.answer.specs.Answer.{refusal_number, values}
 use Rattle.protocol.specs.Checks.{Check, checks, first_of, refusal}
-use Rattle.protocol.specs.Laws.Kept.{sound_kept}
+use Rattle.protocol.proofs.Laws.Kept.{sound_kept}
 use Rattle.protocol.specs.Done.{Done}
 use Rattle.record.specs.Record.{is_kind, body_length, decode}
 use Rattle.protocol.specs.Sound.{sound}

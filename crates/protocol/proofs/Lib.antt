@@ -1,0 +1,3 @@
+-- The laws of the definitions that wrong definitions are refused by.
+pub mod Laws
+pub mod Worked
