@@ -7,7 +7,6 @@ use Rattle.replay_stage.specs.declared.Given.{Given}
 use Rattle.replay_stage.specs.declared.Given.TheVariants.{Failed, Nothing, Bytes}
 use Rattle.replay_stage.specs.declared.Stage.{Stage}
 use Rattle.replay_stage.specs.declared.Then.{Then}
-use Rattle.replay_stage.specs.declared.Then.TheVariants as Then
 
 -- nothing is held, and a turn is next
 abbrev pub begins : Stage
