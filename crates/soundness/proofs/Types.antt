@@ -2,8 +2,7 @@
 -- Assumes nothing.
 use mathlib.Core.List.{List}
 use native.Mathlib.Omega.{arith}
-use borrow.Author.Rules.{elem_fits_field}
-use lib.ListN.{length-map}
+use borrow.Author.Rules.{elem_Fits}
 use mir.Syntax.{w16}
 use mir.Val.{Val}
 use denote.Laws.{Is}
@@ -21,12 +20,12 @@ typed broker vs good =
     let drawn = fields.1.1.1.0 in
     record {
       shape = record {
-        processes_long = rw length-map at fields.0.1.0.1;
-        locations_long = rw length-map at fields.1.0.1.0.1;
-        links_long = rw length-map at fields.1.1.0.1.0.1;
-        drawn_long = rw length-map at drawn.1.0.1;
-        sent_long = rw length-map at fields.1.1.1.1.0.1.1.1.1.0.1.0.1;
+        processes_long = fields.0.1.0.1;
+        locations_long = fields.1.0.1.0.1;
+        links_long = fields.1.1.0.1.0.1;
+        drawn_long = drawn.1.0.1;
+        sent_long = fields.1.1.1.1.0.1.1.1.1.0.1.0.1;
       };
-      numbered = λ h _. omega (arith, elem_fits_field w16 w16 broker.drawn _ h drawn.1.1 tt);
+      numbered = λ h _. omega (arith, elem_Fits w16 w16 broker.drawn _ h drawn.1.1 tt);
       held = held_count broker.transit _ fields.1.1.1.1.0;
     }

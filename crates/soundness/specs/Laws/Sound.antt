@@ -1,8 +1,7 @@
 -- Soundness of a state is the tests of its ranks, of its pairs and of its messages, where its arrays have their lengths and its
 -- numbers fit. Assumes nothing.
 use Rattle.std.specs.Prelude.{◌≡◌, Bool, true, not, ◌&&◌, ◌||◌, List, [], ◌∷◌, map, ℕ, ◌/◌, ◌%◌, ◌<◌, ◌≤◌, leb, length, get_or}
-use Rattle.std.proofs.Common.{ap, arith}
-use borrow.Author.Tests.{leb-true, le-leb}
+use Rattle.std.proofs.Common.{ap, arith, leb-true, le-leb}
 use Rattle.base.specs.Laws.Tests.{both, both_left, both_right, AllTrue, parts, chained, same_truth}
 use Rattle.base.specs.Lists.{select, every}
 use Rattle.base.specs.Laws.Lists.{every_wider, every_and}
