@@ -10,7 +10,7 @@ mod proved_program;
 #[path = "../shared/timing_program.rs"]
 mod timing_program;
 
-use feigned_program::{place_in, root_with};
+use feigned_program::{place_in, root_with, Folder};
 use made_up_program::MADE_UP;
 use proved_program::{program_at, USUAL_PLACE};
 use std::ffi::OsStr;
@@ -55,10 +55,11 @@ fn bench(name: &str, programs: &[(&str, impl AsRef<OsStr>)]) -> Output {
     output
 }
 
-/// Some lines of shell as a program of this name.
-fn feigned(name: &str, lines: &str) -> PathBuf {
+/// Some lines of shell as a program of this name, and the folder that has it.
+fn feigned(name: &str, lines: &str) -> (Folder, PathBuf) {
     let root = root_with(name, &[(name, lines)]);
-    place_in(&root, name)
+    let place = place_in(&root, name);
+    (root, place)
 }
 
 /// The numbers of a table's row, without their commas.
@@ -130,10 +131,11 @@ fn a_small_run_prints_a_row_for_each_input_and_each_call() {
     };
     // It writes no other pass than that of the row.
     let of_row = format!("[ \"$*\" = '1 200000' ] && exec {RUST_MADE_UP} $*");
+    let (_folder, one_pass) = feigned("pass-of-row", &of_row);
     let programs = [
         ("--replay", replay),
         ("--made-up", made_up),
-        ("--engine-made-up", feigned("pass-of-row", &of_row)),
+        ("--engine-made-up", one_pass),
         ("--timing", timing),
     ];
     let output = bench("bench-small", &programs);
@@ -184,7 +186,7 @@ fn programs_that_differ_are_told() {
 #[test]
 fn programs_that_differ_late_are_told() {
     for change in ["head -c -1", "sed '$a more'", "sed '$s/end/and/'"] {
-        let changed = feigned("changed-run", &format!("{ENGINE} | {change}"));
+        let (_folder, changed) = feigned("changed-run", &format!("{ENGINE} | {change}"));
         for option in ["--replay", "--engine-replay"] {
             assert_differ("bench-late", option, &changed, FIRST_INPUT);
         }
@@ -195,7 +197,8 @@ fn programs_that_differ_late_are_told() {
 #[test]
 fn made_up_passes_that_differ_are_told() {
     for arguments in ["$(($1 + 1)) $2", "$1 $(($2 - 1))", "$1 $(($2 + 1))"] {
-        let changed = feigned("changed-pass", &format!("exec {RUST_MADE_UP} {arguments}"));
+        let (_folder, changed) =
+            feigned("changed-pass", &format!("exec {RUST_MADE_UP} {arguments}"));
         for option in ["--made-up", "--engine-made-up"] {
             assert_differ("bench-made", option, &changed, "a made-up pass");
         }
@@ -236,7 +239,7 @@ fn a_program_that_is_not_there_is_told() {
         let output = bench("bench-none", &[(option, "none")]);
         assert_eq!(output.status.code(), Some(1));
         let said = String::from_utf8(output.stderr).unwrap();
-        let told = format!("bench: there is no program at none; 'rt check {name}' builds it\n");
+        let told = format!("bench: there is no program at none; 'rt run' in crates/{name} builds it\n");
         assert_eq!(said, told);
     }
 }

@@ -2,10 +2,10 @@
 //! each call, says what the kit says, and puts a program where it is looked
 //! for. What it puts for `replay` says that it ran, and any other is silent.
 
-use crate::feigned_program::{put_program, root_with};
+use crate::feigned_program::{put_program, root_with, Folder};
 use crate::script::{end_of, End};
 use std::fs;
-use std::path::{Path, PathBuf};
+use std::path::Path;
 use std::process::Command;
 
 /// The crate `base` is below that of `replay` by way of another, and not below
@@ -24,7 +24,7 @@ other: base
 /// sources have no endings: the kit itself, which looks for sources in all
 /// folders, would miss them in the list of crates.
 struct Repository {
-    folder: PathBuf,
+    folder: Folder,
 }
 
 /// It is called in the folder of a program's crate, says all on standard error,
@@ -79,7 +79,7 @@ impl Repository {
         let mut command = Command::new(env!("CARGO_BIN_EXE_command-line"));
         let others = "/usr/bin:/bin";
         command.env("PATH", format!("{}:{others}", path.display()));
-        end_of(command.arg(&self.folder).args(arguments))
+        end_of(command.arg(&*self.folder).args(arguments))
     }
 
     fn with_kit(&self) -> End {

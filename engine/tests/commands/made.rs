@@ -12,7 +12,7 @@ use std::process::Command;
 fn asked(name: &str, programs: &[(&str, &str)], arguments: &[&str]) -> End {
     let root = root_with(&format!("made-{name}"), programs);
     let mut command = Command::new(env!("CARGO_BIN_EXE_command-line"));
-    end_of(command.arg(root).args(arguments))
+    end_of(command.arg(&*root).args(arguments))
 }
 
 fn ended(status: i32, printed: &str, said: &str) -> End {

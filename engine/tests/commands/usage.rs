@@ -1,8 +1,8 @@
 //! Wrong command lines get the usage on standard error and status 2; right
 //! ones work from any folder and through a link.
 
+use crate::feigned_program::Folder;
 use crate::script::{file_with, run_of, shell, ROOT};
-use std::fs;
 use std::os::unix::fs::symlink;
 
 /// The usage as `--help` prints it.
@@ -78,9 +78,10 @@ fn version_tells_the_commit_and_the_kit() {
 
 #[test]
 fn it_works_from_any_folder_and_through_a_link() {
-    let link = format!("{}/linked-run", env!("CARGO_TARGET_TMPDIR"));
-    let _ = fs::remove_file(&link);
+    let folder = Folder::new("commands-linked");
+    let link = folder.join("linked-run");
     symlink(format!("{ROOT}/run"), &link).unwrap();
+    let link = link.display();
     let text = file_with("any-folder.txt", b"start 0 0\n");
     let text = text.display();
     for (line, printed) in [
@@ -103,12 +104,11 @@ fn it_works_from_any_folder_and_through_a_link() {
 /// A path with the tools that the script needs, and no cargo.
 #[test]
 fn a_missing_cargo_is_named() {
-    let tools = format!("{}/without-cargo", env!("CARGO_TARGET_TMPDIR"));
-    let _ = fs::remove_dir_all(&tools);
-    fs::create_dir(&tools).unwrap();
+    let tools = Folder::new("commands-without-cargo");
     for tool in ["bash", "readlink", "dirname"] {
-        symlink(format!("/usr/bin/{tool}"), format!("{tools}/{tool}")).unwrap();
+        symlink(format!("/usr/bin/{tool}"), tools.join(tool)).unwrap();
     }
+    let tools = tools.display();
     let Some(end) = shell(&format!("PATH='{tools}' ./run")) else {
         return;
     };

@@ -2,7 +2,7 @@
 //! reader goes away: `./run` ends then, and the generator with it, however long
 //! the pass would be.
 
-use crate::feigned_program::{place_in, root_with};
+use crate::feigned_program::{place_in, root_with, Folder};
 use crate::made_up_program::MADE_UP;
 use crate::peak_memory::peak_memory_kib;
 use crate::program::UNWRITABLE;
@@ -12,7 +12,7 @@ use crate::running::Running;
 use crate::script::{assert_end, shell_after};
 use std::fs;
 use std::io::{self, Read};
-use std::path::{Path, PathBuf};
+use std::path::Path;
 use std::process::{Command, Stdio};
 
 /// Said where the text cannot be written.
@@ -25,11 +25,11 @@ const ENDLESS: &str = "echo $$ >\"$0.number\"\nexec yes \"$(printf '\\014\\014')
 
 /// A pass of that generator, with these lines of shell in the place of the
 /// program that prints a run: the repository's root, and the request.
-fn endless(name: &str, replay: &str, form: &[&str]) -> (PathBuf, Command) {
+fn endless(name: &str, replay: &str, form: &[&str]) -> (Folder, Command) {
     let programs = [("made_up", ENDLESS), ("replay", replay)];
     let root = root_with(&format!("faults-{name}"), &programs);
     let mut command = Command::new(env!("CARGO_BIN_EXE_command-line"));
-    command.arg(&root).args(["--made", "1", "2"]).args(form);
+    command.arg(&*root).args(["--made", "1", "2"]).args(form);
     (root, command)
 }
 

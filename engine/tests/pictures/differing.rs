@@ -32,7 +32,7 @@ fn drawn_as(repository: &str, printed: &str) -> End {
     let root = root_with(repository, &[("replay", &program)]);
     let log = file_with(&format!("{repository}.log"), &encode(TEXT).unwrap());
     let mut command = Command::new(env!("CARGO_BIN_EXE_command-line"));
-    end_of(command.arg(root).args(["--picture", &log]))
+    end_of(command.arg(&*root).args(["--picture", &log]))
 }
 
 #[test]

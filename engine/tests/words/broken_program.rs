@@ -30,7 +30,7 @@ fn a_run_that_is_not_whole_ends_with_1() {
     {
         let mut command = Command::new(env!("CARGO_BIN_EXE_command-line"));
         let root = root_with(&format!("words-broken-{index}"), &[("replay", program)]);
-        command.arg(root);
+        command.arg(&*root);
         let output = command.arg("--words").arg(&log).output().unwrap();
         assert_eq!(output.status.code(), Some(1), "{program}");
         assert_eq!(String::from_utf8_lossy(&output.stdout), printed);

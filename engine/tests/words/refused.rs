@@ -63,10 +63,9 @@ fn rows_reach_every_number_that_a_whole_record_gets() {
 #[test]
 fn a_spent_pair_is_told() {
     let program = [("replay", "echo 0 04 28 0 0 0; echo end")];
+    let root = root_with("words-spent", &program);
     let mut command = Command::new(env!("CARGO_BIN_EXE_command-line"));
-    command
-        .arg(root_with("words-spent", &program))
-        .arg("--words");
+    command.arg(&*root).arg("--words");
     command.arg(file_with("spent.log", &log_of("send 0 1 500")));
     let told = printed(command.output().unwrap());
     let words = words_for("send 0 1 500", Refusal::SendsExhausted);
