@@ -1,5 +1,5 @@
 -- Drain: the first row of the table of checks that applies is the first of the kind's tests that fails. Assumes nothing.
-use Rattle.std.proofs.Math.Bool.{and-true, or-false}
+use Rattle.std.proofs.Math.Bool.{and-true}
 use Rattle.std.specs.Prelude.{◌≡◌}
 use Rattle.transit.specs.Unread.{first_sent}
 use Rattle.transit.specs.declared.Rank.{Rank}
@@ -19,4 +19,4 @@ pub by_tests :
     refusal s (Drain r p) ≡
     judged passed (drain_tests r p (status s r) (status s p) (backlog s r p) (first_sent (on_source_channel p r) s.unread))
 unfolding opened_checks
-by_tests s r p = rw (judged_first, ← no_head) (simp (and-true, or-false))
+by_tests s r p = rw (judged_first, ← no_head) (simp and-true)

@@ -1,5 +1,5 @@
 -- Heed: the first row of the table of checks that applies is the first of the kind's tests that fails. Assumes nothing.
-use Rattle.std.proofs.Math.Bool.{and-true, or-false}
+use Rattle.std.proofs.Math.Bool.{and-true}
 use Rattle.std.specs.Prelude.{◌≡◌}
 use Rattle.transit.specs.declared.Rank.{Rank}
 use Rattle.protocol.specs.Checks.{refusal}
@@ -15,4 +15,4 @@ pub by_tests :
     (s : State) (b r : Rank) →
     refusal s (Heed b r) ≡ judged passed (heed_tests b r (status s b) (status s r) (connection s b r))
 unfolding opened_checks
-by_tests s b r = rw judged_first (simp (and-true, or-false))
+by_tests s b r = rw judged_first (simp and-true)
