@@ -239,7 +239,8 @@ fn a_program_that_is_not_there_is_told() {
         let output = bench("bench-none", &[(option, "none")]);
         assert_eq!(output.status.code(), Some(1));
         let said = String::from_utf8(output.stderr).unwrap();
-        let told = format!("bench: there is no program at none; 'rt run' in crates/{name} builds it\n");
+        let told =
+            format!("bench: there is no program at none; 'rt run' in crates/{name} builds it\n");
         assert_eq!(said, told);
     }
 }

@@ -11,6 +11,13 @@ const PROMPT: &str = "$ ";
 /// The gate, which runs these tests itself.
 const GATE: &str = ".ci/run";
 
+/// How a command looks that proves a crate, in that crate's folder. It takes
+/// minutes where nothing is kept, and the gate, which fails at a crate that is
+/// not proved, has just done it: so of such a crate it says `PROVED`.
+const FOLDER: &str = "cd crates/";
+const PROVES: &str = " && rt check | tail -n 1 | grep -o '^logic=[a-z-]*'";
+const PROVED: &str = "logic=proved\n";
+
 /// The benchmark, which takes minutes and prints what it measures; `performance`
 /// makes a small run of it.
 const BENCHMARK: &str = "cd engine && cargo run --release --offline --bin bench";
@@ -46,13 +53,17 @@ pub fn shown_in(block: &Block) -> Result<Vec<Shown>, String> {
     Ok(commands)
 }
 
-/// Whether a command prints what is shown for it. The two that can't be run
-/// here are there, and nothing is shown for them.
+/// Whether a command prints what is shown for it. Two that can't be run here
+/// are there, and nothing is shown for them; one that proves a crate names one
+/// that the gate proves.
 pub fn check(shown: &Shown) -> Result<(), String> {
     let printed = match &shown.command[..] {
         GATE => is_executable(GATE).map(|()| String::new())?,
         BENCHMARK => String::new(),
-        command => printed_by(command)?,
+        command => match proved_by(command) {
+            Some(name) => is_listed(name).map(|()| PROVED.to_owned())?,
+            None => printed_by(command)?,
+        },
     };
     if printed == shown.output {
         return Ok(());
@@ -61,6 +72,24 @@ pub fn check(shown: &Shown) -> Result<(), String> {
         "'{}' prints\n{printed}and what is shown is\n{}",
         shown.command, shown.output
     ))
+}
+
+/// The crate that a command proves, if it does nothing else.
+fn proved_by(command: &str) -> Option<&str> {
+    command.strip_prefix(FOLDER)?.strip_suffix(PROVES)
+}
+
+/// Whether the gate proves a crate of this name.
+fn is_listed(name: &str) -> Result<(), String> {
+    let crates = fs::read_to_string(Path::new(ROOT).join("crates.txt"));
+    let crates = crates.map_err(|error| format!("crates.txt: {error}"))?;
+    let listed = crates
+        .lines()
+        .filter_map(|line| line.split_once(':'))
+        .any(|(listed, _)| listed == name);
+    listed
+        .then_some(())
+        .ok_or(format!("crates.txt lists no crate '{name}'"))
 }
 
 /// What a command prints, in the form in which it is shown.
@@ -129,6 +158,7 @@ mod tests {
             "$ echo a; echo b >&2; exit 3\na\nb\n[exit status 3]\n",
             "$ head -n 1 README.md | cut -c 1\n#\n",
             "$ .ci/run\n",
+            "$ cd crates/steps && rt check | tail -n 1 | grep -o '^logic=[a-z-]*'\nlogic=proved\n",
         ] {
             assert_eq!(check(&first(content)), Ok(()));
         }
@@ -147,6 +177,8 @@ mod tests {
             "$ exit 3\n[exit status 1]\n",
             "$ echo b >&2\nb\n",
             "$ .ci/run\n100 passed, 0 failed\n",
+            "$ cd crates/steps && rt check | tail -n 1 | grep -o '^logic=[a-z-]*'\n",
+            "$ cd crates/none && rt check | tail -n 1 | grep -o '^logic=[a-z-]*'\nlogic=proved\n",
         ] {
             assert!(check(&first(content)).is_err(), "{content}");
         }

@@ -7,6 +7,12 @@ use crate::proved_program::{program_at, USUAL_PLACE};
 use crate::release_programs::build_release;
 use crate::{quotes, running_text};
 
+/// Where the example is built that README builds.
+const TALLY: &str = concat!(
+    env!("CARGO_MANIFEST_DIR"),
+    "/../crates/example_tally/out/example_tally"
+);
+
 fn documents() -> Vec<Document> {
     let read = |name: &String| Document::read(name).unwrap_or_else(|problem| panic!("{problem}"));
     names().iter().map(read).collect()
@@ -28,7 +34,10 @@ fn commands(document: &Document) -> Vec<Shown> {
 
 #[test]
 fn every_command_prints_what_is_shown() {
-    if program_at(USUAL_PLACE).is_none() || program_at(MADE_UP).is_none() {
+    if [USUAL_PLACE, MADE_UP, TALLY]
+        .map(program_at)
+        .contains(&None)
+    {
         return;
     }
     build_release(&["--made", "1", "0"]);

@@ -53,7 +53,7 @@ mod tests {
     #[test]
     fn lines_of_a_file_pass() {
         assert_eq!(quoted("rust engine/src/names.rs", RANK), Ok(()));
-        assert_eq!(quoted("text .gitignore", "target/\n"), Ok(()));
+        assert_eq!(quoted("text .gitignore", "target/\nout/\n"), Ok(()));
     }
 
     #[test]
@@ -66,7 +66,8 @@ mod tests {
             ("rust engine/src/none.rs", RANK),
             ("rust", RANK),
             ("text engine/src/names.rs", RANK),
-            ("text .gitignore", "target\n"),
+            ("text .gitignore", "target\nout\n"),
+            ("text .gitignore", "out/\n"),
             ("text", "target/\n"),
             ("python engine/src/names.rs", RANK),
             ("", "target/\n"),

@@ -12,12 +12,20 @@ pub fn check_commands(document: &Document, shown: &[String]) -> Result<(), Strin
     for (line, text) in &document.prose {
         for code in text.split('`').skip(1).step_by(2) {
             let is_command = BEGINNINGS.iter().any(|first| code.starts_with(first));
-            if is_command && !shown.iter().any(|command| command.starts_with(code)) {
+            if is_command && !shown.iter().any(|command| begins(command, code)) {
                 return Err(document.at(*line, format!("no console block shows '{code}'")));
             }
         }
     }
     Ok(())
+}
+
+/// Whether a command begins with some code, from the folder on that it goes to.
+fn begins(command: &str, code: &str) -> bool {
+    let inside = command
+        .strip_prefix("cd ")
+        .and_then(|moved| moved.split_once(" && "));
+    command.starts_with(code) || inside.is_some_and(|(_, inside)| inside.starts_with(code))
 }
 
 /// The first link of a document that leads nowhere.
@@ -45,13 +53,22 @@ mod tests {
 
     #[test]
     fn commands_are_compared_with_those_shown() {
-        let shown = ["./run --text examples/listing.txt".to_owned()];
+        let shown = [
+            "./run --text examples/listing.txt",
+            "cd crates/steps && rt fmt",
+        ];
+        let shown = shown.map(str::to_owned);
         let checked = |text: &str| check_commands(&document(text), &shown);
         assert_eq!(
-            checked("`./run` and `send 0 1 500`, `./run --text` too"),
+            checked("`./run` and `send 0 1 500`, `./run --text` and `rt fmt` too"),
             Ok(())
         );
-        for text in ["`./run FILE`", "a `b`, `cargo test`", "`logtext decode`"] {
+        for text in [
+            "`./run FILE`",
+            "a `b`, `cargo test`",
+            "`logtext decode`",
+            "`rt fmt all`",
+        ] {
             assert!(checked(text).is_err(), "{text}");
         }
     }
