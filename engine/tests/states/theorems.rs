@@ -43,43 +43,42 @@ fn imports(group: &[Listed], first: &Listed) -> Vec<String> {
     let unsound = group.iter().any(|listed| !listed.sound);
     let starts = group[0].name == first.name;
     let filled = group.iter().any(|listed| filling(listed).is_some());
-    let mut opened = vec!["openedSound".to_string()];
+    let mut opened = vec!["opened_sound".to_string()];
     let mut values = vec!["true"];
     if unsound {
-        opened.insert(0, format!("opened{section}"));
+        opened.insert(0, format!("opened_{}", section.to_lowercase()));
         values.push("false");
     }
     if filled {
-        opened.insert(0, "openedChecks".to_string());
+        opened.insert(0, "opened_checks".to_string());
     }
     let mut imports = vec![
-        "mathlib.Core.Path.{_≡_, refl}".to_string(),
-        format!("mathlib.Core.Bool.{{{}}}", values.join(", ")),
-        "mathlib.Core.List.{[], _∷_}".to_string(),
         format!(
-            "Rattle·protocol.specs.Laws.Opened.{{{}}}",
+            "Rattle.std.specs.Prelude.{{◌≡◌, refl, {}, [], ◌∷◌}}",
+            values.join(", ")
+        ),
+        format!(
+            "Rattle.protocol.specs.Laws.Opened.{{{}}}",
             opened.join(", ")
         ),
-        "Rattle·protocol.specs.Sound.{sound}".to_string(),
+        "Rattle.protocol.specs.Sound.{sound}".to_string(),
     ];
     if starts {
-        imports.push("Rattle·broker.specs.State as Desk".to_string());
+        imports.push("Rattle.broker.specs.State as Desk".to_string());
     }
-    imports.push("Rattle·broker.specs.State.{State}".to_string());
+    imports.push("Rattle.broker.specs.State.{State}".to_string());
     if filled {
-        imports.push("Rattle·test_worked·specs.specs.Filled.{filled}".to_string());
+        imports.push("Rattle.test_worked.specs.Filled.{filled}".to_string());
     }
     if unsound {
         let law = section.to_lowercase();
         imports.push(format!(
-            "Rattle·test_worked·specs.specs.Unsound.{{{law}-unsound}}"
+            "Rattle.test_worked.specs.Unsound.{{{law}_unsound}}"
         ));
     }
     if !starts {
-        let (section, name) = (&first.section, &first.name);
-        imports.push(format!(
-            "Rattle·test_worked·specs.specs.{section}.{{{name}}}"
-        ));
+        let (section, name) = (&first.section, named_in_antt(first));
+        imports.push(format!("Rattle.test_worked.specs.{section}.{{{name}}}"));
     }
     let used = |word: &&str| {
         let uses = |change: &String| change.split(' ').next() == Some(word);
@@ -87,8 +86,13 @@ fn imports(group: &[Listed], first: &Listed) -> Vec<String> {
     };
     let words = WORDS.iter().map(|&(word, _)| word).filter(used);
     let words: Vec<&str> = ["changed"].into_iter().chain(words).collect();
-    imports.push(named("Rattle·test_worked·specs.specs.Words", &words));
+    imports.push(named("Rattle.test_worked.specs.Words", &words));
     imports
+}
+
+/// The name of a state where it is defined: the list has dashes in it.
+fn named_in_antt(listed: &Listed) -> String {
+    listed.name.replace('-', "_")
 }
 
 /// An import of names on one line, or on a line each where that is too long.
@@ -103,11 +107,11 @@ fn named(module: &str, names: &[&str]) -> String {
 
 /// The changes in turn, as many to a line as it holds.
 fn definition(listed: &Listed, first: &Listed) -> String {
-    let name = &listed.name;
-    let start = if name == &first.name {
-        "Desk.fresh"
+    let name = named_in_antt(listed);
+    let start = if listed.name == first.name {
+        "Desk.fresh".to_owned()
     } else {
-        &first.name
+        named_in_antt(first)
     };
     let list = match &listed.changes[..] {
         [] => "[]".to_string(),
@@ -147,32 +151,31 @@ fn filling(listed: &Listed) -> Option<String> {
 }
 
 fn theorem(listed: &Listed, first: &Listed) -> String {
-    let (name, verdict) = (&listed.name, listed.verdict());
-    let section = &listed.section;
+    let (name, verdict) = (named_in_antt(listed), listed.verdict());
+    let section = listed.section.to_lowercase();
     let mut text = "\n".to_string();
     let (opened, proof) = if let Some(messages) = filling(listed) {
         let mut before = listed.clone();
-        before.name = format!("{name}-before");
+        before.name = format!("{}-before", listed.name);
         before.changes.pop();
         text = format!("\n{}\n", definition(&before, first));
         (
-            "openedChecks openedSound".to_string(),
+            "opened_checks opened_sound".to_string(),
             format!(
                 "\n    filled {messages} {} refl refl refl (refl, refl, refl, refl)",
-                before.name
+                named_in_antt(&before)
             ),
         )
     } else if listed.sound {
-        ("openedSound".to_string(), " refl".to_string())
+        ("opened_sound".to_string(), " refl".to_string())
     } else {
-        let law = section.to_lowercase();
         (
-            format!("opened{section}"),
-            format!(" {law}-unsound {name} refl"),
+            format!("opened_{section}"),
+            format!(" {section}_unsound {name} refl"),
         )
     };
     text + &format!(
-        "pub {name}-is-{verdict} : sound {name} ≡ {}\nunfolding {opened}\n{name}-is-{verdict} ={proof}\n",
+        "pub {name}_is_{verdict} : sound {name} ≡ {}\nunfolding {opened}\n{name}_is_{verdict} ={proof}\n",
         listed.sound
     )
 }
