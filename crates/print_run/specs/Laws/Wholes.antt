@@ -85,7 +85,7 @@ module _ (base : ℕ) (log : List ℕ) where
   one_last n s at r next =
       along (λ n s at c. decode log c.at ≡ Whole r next → wholes base (suc n) s log at ≡ further c r next)
       (λ s at e. one_first 0 s at e)
-      (λ n s at none e. cc (ap is_whole e))
+      (λ n s at none e. cc)
       (λ n s at q k d c later e. one_first (suc n) s at d ∙ ap (ahead s at q) (later e))
       n s at
 
