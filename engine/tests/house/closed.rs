@@ -22,8 +22,8 @@ const PROMISE: [&str; 5] = ["Operations", "Removed", "Promise", "Order", "Pairs"
 /// values and listing, and the runs on the page of promises.
 const COMPUTED: [&str; 8] = [
     "protocol.specs.Laws.Opened.opened",
-    "protocol.specs.Laws.Edges.edges_hold",
-    "protocol.specs.Laws.Values.values_hold",
+    "protocol.proofs.Laws.Edges.edges_hold",
+    "protocol.proofs.Laws.Values.values_hold",
     "print_run.specs.Shown.shown",
     "print_run.specs.Shown.prints_shown",
     "print_run.specs.Listing.listing_prints",
@@ -100,12 +100,14 @@ fn is_above(source: &&Source) -> bool {
 /// Whether a whole name, of a file or of what it declares, is of a worked
 /// example, and whether it is of a law or of a proof.
 fn is_worked(name: &str) -> bool {
-    name.split('.').skip(1).take(2).eq(["specs", "Worked"])
+    let parts: Vec<&str> = name.split('.').collect();
+    matches!(parts[..], [_, "specs" | "proofs", "Worked", ..])
 }
 
 fn is_proof(name: &str) -> bool {
     let parts: Vec<&str> = name.split('.').collect();
-    matches!(parts[..], [_, "specs", "Laws", ..] | [_, "proofs", ..])
+    let proves = matches!(parts[..], [_, "specs", "Laws", ..] | [_, "proofs", ..]);
+    proves && !is_worked(name)
 }
 
 /// What opens the lower part's operations, itself or through others.
@@ -150,7 +152,9 @@ fn opened(tree: &[Source]) -> Vec<String> {
 /// proofs cite of worked examples.
 fn cited_beside(tree: &[Source]) -> Vec<String> {
     let beside = |name: &str| match name.split('.').collect::<Vec<_>>()[..] {
-        [owner, "specs", "Laws", file, ..] => is_lower(owner) && !PROMISE.contains(&file),
+        [owner, "specs" | "proofs", "Laws", file, ..] => {
+            is_lower(owner) && !PROMISE.contains(&file)
+        }
         _ => false,
     };
     let mut found = Vec::new();

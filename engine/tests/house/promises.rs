@@ -31,14 +31,17 @@ fn public_laws(tree: &[Source]) -> Vec<Public> {
         .collect()
 }
 
-/// Whether a file has laws to cite. A worked example is none: it stands for
-/// itself, and holds the definitions that it computes. Nor is a promise.
+/// Whether a file has laws to cite: what is below specs/, and the laws below
+/// proofs/, by which a wrong definition is refused. A worked example is none: it
+/// stands for itself, and holds the definitions that it computes. Nor is a
+/// promise.
 fn has_laws(path: &str) -> bool {
     let parts: Vec<&str> = path.split('/').collect();
     match parts[..] {
-        ["crates", "test_worked", ..] | ["crates", _, "specs", "Worked", ..] => false,
+        ["crates", "test_worked", ..] | ["crates", _, "specs" | "proofs", "Worked", ..] => false,
         ["crates", "promises", "specs", "Promises.antt"] => false,
         ["crates", _, "specs", .., file] => file.ends_with(".antt"),
+        ["crates", _, "proofs", "Laws", .., file] => file.ends_with(".antt"),
         _ => false,
     }
 }
@@ -219,11 +222,17 @@ mod tests {
 
     #[test]
     fn worked_examples_and_promises_are_told_from_laws() {
-        for path in ["crates/a/specs/Laws/B.antt", "crates/a/specs/C.antt"] {
+        for path in [
+            "crates/a/specs/Laws/B.antt",
+            "crates/a/specs/C.antt",
+            "crates/a/proofs/Laws/B.antt",
+            "crates/a/proofs/Laws/B/C.antt",
+        ] {
             assert!(has_laws(path), "{path}");
         }
         for path in [
             "crates/a/specs/Worked/B.antt",
+            "crates/a/proofs/Worked/B.antt",
             "crates/test_worked/specs/B.antt",
             "crates/promises/specs/Promises.antt",
             "crates/a/proofs/f/Answers.antt",

@@ -7,13 +7,15 @@ use crate::tree::{sources, Source};
 /// The quotient is below this, in hundredths.
 const MOST: usize = 300;
 
-/// Whether a file is proof: what is below proofs/, and the files of laws.
+/// Whether a file is proof: what is below proofs/ but for worked examples, and
+/// the files of laws.
 fn is_proof(path: &str) -> bool {
     let parts: Vec<&str> = path.split('/').collect();
-    matches!(
-        parts[..],
-        ["crates", _, "proofs", ..] | ["crates", _, "specs", "Laws" | "Laws.antt", ..]
-    )
+    match parts[..] {
+        ["crates", _, "proofs", folder, ..] => !["Worked", "Worked.antt"].contains(&folder),
+        ["crates", _, "specs", folder, ..] => ["Laws", "Laws.antt"].contains(&folder),
+        _ => false,
+    }
 }
 
 fn is_code(path: &str) -> bool {
@@ -59,6 +61,7 @@ fn proof_is_told_from_definitions() {
         "crates/steps/proofs/step/Answers.antt",
         "crates/steps/proofs/step/Invariants.antt",
         "crates/ordering/specs/Laws/First.antt",
+        "crates/protocol/proofs/Laws/Kept/Names.antt",
     ] {
         assert!(is_proof(path), "{path}");
     }
@@ -66,6 +69,7 @@ fn proof_is_told_from_definitions() {
         "crates/protocol/specs/Step.antt",
         "crates/ordering/specs/Claim.antt",
         "crates/ordering/specs/Worked/Listing.antt",
+        "crates/protocol/proofs/Worked/Spent.antt",
     ] {
         assert!(!is_proof(path), "{path}");
     }
