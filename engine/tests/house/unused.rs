@@ -31,11 +31,22 @@ fn is_used(name: &str, names: &HashSet<&str>) -> bool {
     names.contains(name) || signs(name).iter().all(|sign| names.contains(sign))
 }
 
+/// The traits of the kit that a file brings in to call what they have.
+const TRAITS: [(&str, &[&str]); 1] = [("std::io::Read", &["read", "take"])];
+
+/// Whether code calls something that a trait has.
+fn calls(words: &[&str], trait_path: &str) -> bool {
+    let traits = TRAITS.iter().filter(|(path, _)| *path == trait_path);
+    let mut methods = traits.flat_map(|(_, methods)| *methods);
+    methods.any(|method| words.windows(3).any(|call| call == [".", method, "("]))
+}
+
 fn unused_in_code(source: &Source) -> Vec<String> {
     let plain = plain_part(&source.text);
     let words = plain_words(&plain);
     let imports = plain_imports(&plain).into_iter();
-    let unused = imports.filter(|import| !uses(&words, &import.local));
+    let used = |path: &str, name: &str| uses(&words, name) || calls(&words, path);
+    let unused = imports.filter(|import| !used(&import.path, &import.local));
     unused
         .map(|import| source.at(import.line, complaint(&import.local)))
         .collect()
@@ -70,6 +81,8 @@ mod tests {
         assert_eq!(names("x.antt", text), [""; 0]);
         let text = "ghost use a.{b};\nuse c::{D, e};\nfn f(x: D)\n    ensures { b x }\n{ e(x) }";
         assert_eq!(names("x.rt", text), [""; 0]);
+        let text = "use std::io::Read;\nfn f() {\n    a.read(b)\n}";
+        assert_eq!(names("x.rt", text), [""; 0]);
         let text = "use a::B;\nfn f() {\n    for i in 0..B {}\n}";
         assert_eq!(names("x.rt", text), [""; 0]);
     }
@@ -82,5 +95,7 @@ mod tests {
         let text = "ghost use a.{b};\nuse c::D;\nuse c::{f, g};\n\
                     fn b(x: u8)\n    ensures { D x }\n{ x.f(); g(x) } // f(x)";
         assert_eq!(names("x.rt", text), ["b", "D", "f"]);
+        let text = "use std::io::Read;\nuse a::Read;\nfn f() {\n    read(b).write(c)\n}";
+        assert_eq!(names("x.rt", text), ["Read", "Read"]);
     }
 }
