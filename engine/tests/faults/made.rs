@@ -81,7 +81,7 @@ fn a_long_pass_takes_little_memory() {
     const READ_BYTES: u64 = 64 << 20;
     const MOST_MEMORY_KIB: u64 = 16 * 1_024;
     for (name, form) in [("memory", REPLAYED), ("memory-text", AS_TEXT)] {
-        let (_, mut command) = endless(name, "exec cat", form);
+        let (_root, mut command) = endless(name, "exec cat", form);
         let mut child = command.stdout(Stdio::piped()).spawn().unwrap();
         let mut part = child.stdout.take().unwrap().take(READ_BYTES);
         assert_eq!(io::copy(&mut part, &mut io::sink()).unwrap(), READ_BYTES);
