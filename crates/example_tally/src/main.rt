@@ -25,7 +25,8 @@ fn tell(rt: &impl Print, number: usize, count: u32) -> io::Result<()> {
     Ok(())
 }
 
-// The log is read as far as the room goes, and up to a read that fails. No number is above 28: the test in the loop spares the proof of that.
+// The log is read as far as the room goes, and up to a read that fails. No number is above 28: the test in the loop spares the proof of
+// that.
 fn main(rt: HostRuntime) -> io::Result<()> {
     let mut log = Vec::new(rt.alloc());
     let _ = rt.stdin().take(ROOM).read_to_end(&mut log);
