@@ -14,7 +14,9 @@ use Rattle.broker.specs.declared.process.Vmid.{Vmid}
 pub withdraw_unread : (a b : Rank) (u : Unread) (s : State) → with_unread u (withdraw a b s) ≡ withdraw a b (with_unread u s)
 withdraw_unread a b u s = at (asks_for b (request s a))
   where
-    at : (t : Bool) → with_unread u (cond t (with_request a Absent s) s) ≡ cond t (with_request a Absent (with_unread u s)) (with_unread u s)
+    at : (t : Bool) →
+        with_unread u (cond t (with_request a Absent s) s) ≡
+        cond t (with_request a Absent (with_unread u s)) (with_unread u s)
     at true = refl
     at false = refl
 

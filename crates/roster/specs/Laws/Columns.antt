@@ -80,7 +80,8 @@ module _ {l m : List ℕ} where
       let drawn = column_kept o drawn_of DRAWN hosts (λ k b p q. omega arith) in
       record { long = o.whole; same = rw (processes_kept o (omega arith), locations, own, drawn) }
 
-  pub drawn_only : {ns : List ℕ} → Outside DRAWN roster_length l m → tabulate hosts (drawn_in m) ≡ ns → Holds m (with_all_drawn ns (ranks_of l))
+  pub drawn_only : {ns : List ℕ} → Outside DRAWN roster_length l m → tabulate hosts (drawn_in m) ≡ ns
+      → Holds m (with_all_drawn ns (ranks_of l))
   unfolding ranks_of
   drawn_only o own =
       let locations = column_kept o vmid_of LOCATIONS cells (λ k b p q. omega arith) in

@@ -100,7 +100,8 @@ fill_process {n = n} v w {after = after} so below here =
     let others : (j : ℕ) → j ≢ n → j ≢ REQUESTS + n → get_or (set m (REQUESTS + n) w) j 0 ≡ get_or after j 0 =
     λ j p q. get_or-set_other m (REQUESTS + n) j w 0 q ∙ get_or-set_other after n j v 0 p in
     let call = get_or-set_same m (REQUESTS + n) w 0 (omega (arith, kept.whole)) in
-    let standing = get_or-set_other m (REQUESTS + n) n w 0 (λ e. omega arith) ∙ get_or-set_same after n v 0 (omega (arith, so.kept.whole)) in
+    let standing = get_or-set_other m (REQUESTS + n) n w 0 (λ e. omega arith) ∙
+    get_or-set_same after n v 0 (omega (arith, so.kept.whole)) in
     record {
       kept = changed_inside (REQUESTS + n) w kept (omega arith) (omega arith);
       filled =
@@ -112,7 +113,8 @@ fill_process {n = n} v w {after = after} so below here =
 
 -- a list that is everywhere the same
 tabulate_constant : {A : Type 0} (n : ℕ) (f : ℕ → A) (x : A) → ((k : ℕ) → k < n → f k ≡ x) → tabulate n f ≡ replicate n x
-tabulate_constant n f x same = tabulate_is n f (replicate n x) x (length-replicate n x) (λ k b. same k b ∙ sym (get_or-replicate n k x x b))
+tabulate_constant n f x same =
+    tabulate_is n f (replicate n x) x (length-replicate n x) (λ k b. same k b ∙ sym (get_or-replicate n k x x b))
 
 -- all zeros is the fresh state
 pub cleared : {l : List ℕ} {n : ℕ} → Copying (λ k. 0) 0 roster_length n l → roster_length ≤ n → Holds l fresh
