@@ -10,7 +10,20 @@ use Rattle.transit.specs.Unread.{limit}
 use Rattle.transit.specs.declared.Message.{Message}
 use Rattle.transit.specs.declared.Rank.{Rank}
 use Rattle.protocol.specs.Laws.Ranks.{every_rank_at, every_rank_of, every_pair_at, every_pair_of}
-use Rattle.protocol.specs.Laws.Sound.{AtPairs, Shape, Names, Pairs, Mail, Facts, facts, of_facts, is_named, has_ends, fits_unheeded, fits_place}
+use Rattle.protocol.specs.Laws.Sound.{
+  AtPairs,
+  Shape,
+  Names,
+  Pairs,
+  Mail,
+  Facts,
+  facts,
+  of_facts,
+  is_named,
+  has_ends,
+  fits_unheeded,
+  fits_place,
+}
 use Rattle.protocol.specs.Messages.{sent_between}
 use Rattle.broker.specs.Names.{numbers, is_started, is_migrating, is_live, is_closed, is_open, is_closing, is_clear}
 use Rattle.protocol.specs.Sound.{sound}

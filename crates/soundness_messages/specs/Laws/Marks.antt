@@ -64,7 +64,8 @@ module _ {A : Type 0} {fits named : A → Bool} {cell_of number_of : A → ℕ} 
   pass_falls falls = rw (lt-leb _ _ falls, and-false) at p.same
 
   -- A named element whose mark is the last one of its cell is passed untested.
-  pub pass_again : named x ≡ true → get_or last (cell_of x) 0 ≡ mark_of number_of x → Passing fits named cell_of number_of n answer last rest
+  pub pass_again : named x ≡ true → get_or last (cell_of x) 0 ≡ mark_of number_of x
+      → Passing fits named cell_of number_of n answer last rest
   pass_again name mark =
       let above = le-leb (get_or last (cell_of x) 0) (mark_of number_of x) (omega arith) in
       record { long = p.long; tested = p.tested; same = rw (p.tested x name mark, above, ← mark, set-get_or) at p.same }

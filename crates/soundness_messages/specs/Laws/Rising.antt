@@ -1,7 +1,28 @@
 -- The pass that keeps the last number of each cell: it goes through where each element fits and, within each cell, each number may come
 -- after the one before it, as where numbers never fall, or rise within a most.
 -- Assumes nothing.
-use Rattle.std.specs.Prelude.{◌≡◌, refl, Bool, true, not, ◌&&◌, ◌||◌, List, [], ◌∷◌, map, ℕ, ◌<◌, eqb, leb, ltb, length, get_or, set, replicate}
+use Rattle.std.specs.Prelude.{
+  ◌≡◌,
+  refl,
+  Bool,
+  true,
+  not,
+  ◌&&◌,
+  ◌||◌,
+  List,
+  [],
+  ◌∷◌,
+  map,
+  ℕ,
+  ◌<◌,
+  eqb,
+  leb,
+  ltb,
+  length,
+  get_or,
+  set,
+  replicate,
+}
 use Rattle.std.proofs.Common.{sym, ◌∙◌, subst, arith, eqb-true, eq-eqb, leb-true, le-leb, get_or-set_same, get_or-set_other}
 use Rattle.std.proofs.Math.Bool.{and-false}
 use Rattle.std.proofs.lemmas.Bool.{eqb-false}
