@@ -9,6 +9,7 @@ mod citations;
 mod closed;
 mod code;
 mod counts;
+mod found;
 mod glossary;
 mod imports;
 mod laws;

@@ -1,9 +1,12 @@
 //! Every public law is cited, but for the promises, which stand on one page,
 //! crates/promises/specs/Promises.antt; docs/PROMISES.md lists them, each with
 //! the laws that it cites, and the entries of the library with the functions
-//! that say in full what they promise; and it lists nothing else.
+//! that say in full what they promise; and it lists nothing else. A law that
+//! was a step of a proof which the check finds by itself is cited no more: such
+//! laws are listed in `found.rs`.
 
 use crate::citations::{antt_part, cited, known, paths, whole_name};
+use crate::found::FOUND;
 use crate::imports::words_outside;
 use crate::laws::{laws, Law};
 use crate::table::tables;
@@ -17,9 +20,10 @@ const ENTRIES: &str = "crates/promises/src/lib.rt";
 const PROMISE: &str = "| Promise | What it promises | Laws |";
 const ENTRY: &str = "| Entry | Function | What it promises |";
 
-/// A public law: its place, and whether something cites it.
+/// A public law: its place, its whole name, and whether something cites it.
 struct Public {
     found_at: String,
+    name: String,
     cited: bool,
 }
 
@@ -58,6 +62,7 @@ fn laws_of_file(source: &Source, elsewhere: &HashSet<String>) -> Vec<Public> {
         Public {
             found_at: source.at(law.lines.start, format!("'{}'", law.name)),
             cited: near(law) || elsewhere.contains(&name),
+            name,
         }
     };
     laws(&source.text).iter().map(public).collect()
@@ -141,14 +146,26 @@ fn unlisted_entries(page: &Source, entries: &Source) -> Vec<String> {
     findings
 }
 
+/// The laws that nothing cites and that are not listed, and what is listed and
+/// is no law or is cited.
+fn uncited(laws: &[Public], listed: &[&str]) -> Vec<String> {
+    let uncited = laws.iter().filter(|law| !law.cited);
+    let (known, others): (Vec<&Public>, Vec<&Public>) =
+        uncited.partition(|law| listed.contains(&&law.name[..]));
+    let others = others.iter().map(|law| &law.found_at);
+    let mut findings: Vec<String> = others
+        .map(|law| format!("{law} is cited nowhere, and is no promise"))
+        .collect();
+    let is_known = |name: &&&str| known.iter().any(|law| law.name == **name);
+    let idle = listed.iter().filter(|name| !is_known(name));
+    findings.extend(idle.map(|name| format!("'{name}' is listed, and no law that nothing cites")));
+    findings
+}
+
 #[test]
 fn every_public_law_is_cited() {
     let laws = public_laws(&sources(&[".antt", ".rt"]));
-    let uncited = laws.iter().filter(|law| !law.cited);
-    let findings: Vec<String> = uncited
-        .map(|law| format!("{} is cited nowhere, and is no promise", law.found_at))
-        .collect();
-    expect_none(&findings);
+    expect_none(&uncited(&laws, &FOUND));
 }
 
 #[test]
@@ -159,7 +176,7 @@ fn every_promise_is_listed_with_its_laws() {
 }
 
 mod tests {
-    use super::{has_laws, public_laws, unlisted, unlisted_entries};
+    use super::{has_laws, public_laws, uncited, unlisted, unlisted_entries};
     use crate::tree::Source;
 
     fn tree() -> [Source; 3] {
@@ -176,15 +193,18 @@ mod tests {
     #[test]
     fn uncited_laws_are_found() {
         let laws = public_laws(&tree());
-        let uncited = laws.iter().filter(|law| !law.cited);
-        let places: Vec<_> = uncited.map(|law| &law.found_at[..]).collect();
-        assert_eq!(
-            places,
-            [
-                "crates/a/specs/Laws.antt:4: 'two'",
-                "crates/b/specs/Laws.antt:3: 'four'"
-            ]
-        );
+        let nowhere = "is cited nowhere, and is no promise";
+        let [two, four] = [
+            format!("crates/a/specs/Laws.antt:4: 'two' {nowhere}"),
+            format!("crates/b/specs/Laws.antt:3: 'four' {nowhere}"),
+        ];
+        assert_eq!(uncited(&laws, &[]), [&two[..], &four]);
+        assert_eq!(uncited(&laws, &["a.specs.Laws.two"]), [&four[..]]);
+        let idle = |name: &str| format!("'{name}' is listed, and no law that nothing cites");
+        let listed = ["a.specs.Laws.two", "b.specs.Laws.four", "a.specs.Laws.one"];
+        assert_eq!(uncited(&laws, &listed), [idle("a.specs.Laws.one")]);
+        let listed = ["a.specs.Laws.two", "b.specs.Laws.four", "a.specs.Laws.no"];
+        assert_eq!(uncited(&laws, &listed), [idle("a.specs.Laws.no")]);
     }
 
     const STATED: &str =
