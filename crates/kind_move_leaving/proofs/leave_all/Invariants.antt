@@ -10,7 +10,9 @@ use Rattle.kind_move_leaving.proofs.leave_all.Given as goal
 abbrev pub invariant-loop-i : goal.invariant-loop-i
 invariant-loop-i l = record {
   in_range : l.i ≤ ranks;
-  left : Holds l.roster (with_links (each_below l.i (λ k. leave l.r (rank k)) (ranks_of l.initial.roster).links) (ranks_of l.initial.roster));
+  left :
+      let known = ranks_of l.initial.roster in
+      Holds l.roster (with_links (each_below l.i (λ k. leave l.r (rank k)) known.links) known);
 }
 
 abbrev pub decreases-loop-i : goal.decreases-loop-i

@@ -35,7 +35,8 @@ module _ (a b : Rank) (apart : is_same_rank a b ≡ false) where
       (l : List Message) →
       tally (picks (on_channel a b)) (each_to (on_channel b a) EndList l) ≡ tally (picks (on_channel a b)) l
   other_channel l =
-      ap length (select_map (picks (on_channel a b)) (change_each (picks (on_channel b a)) (relabelled EndList)) on_one l) ∙ simp length-map
+      ap length (select_map (picks (on_channel a b)) (change_each (picks (on_channel b a)) (relabelled EndList)) on_one l)
+      ∙ simp length-map
 
   pub part_done :
       {slots contents slots1 slots2 : List ℕ} {n1 n2 : ℕ} {after : State} (known : State) →

@@ -9,7 +9,9 @@ use Rattle.transit_find.proofs.first_at.Goals as goal
 use Rattle.transit_find.proofs.first_at.Goals.{After-seek-at}
 
 -- The walk came to the first slot of a message of the pair at the place.
-is_earliest : (c : After-seek-at) → Earliest c.args.slots.now c.args.contents.now (picks (BetweenAt c.args.a c.args.b c.args.place)) c.seek-at.result
+is_earliest : (c : After-seek-at) →
+    let a = c.args in
+    Earliest a.slots.now a.contents.now (picks (BetweenAt a.a a.b a.place)) c.seek-at.result
 is_earliest c =
     let a = c.args in
     reached_earliest c.requires a.a a.b c.if-a-ge-LIMIT.false c.if-b-ge-LIMIT.false a.place

@@ -12,11 +12,12 @@ loop-s-preserved c =
     let s = c.loop-s.s in
     let cols = columns_of a.slots.now in
     let first = first_at a.slots.now (ranks * s + a.r) (omega arith) in
+    let least = c.loop-s.invariant.least in
     record {
       in_range = omega arith;
       least =
           elim c.if-first-best.branch [
-            | then-first-best w ↦ rw (w.best-is, ← first) (oldest_less cols a.r c.loop-s.invariant.least (omega (arith, w.if-first-best.true)))
-            | else-first-best w ↦ rw w.best-is (oldest_kept cols a.r c.loop-s.invariant.least (omega (arith, w.if-first-best.false)))
+            | then-first-best w ↦ rw (w.best-is, ← first) (oldest_less cols a.r least (omega (arith, w.if-first-best.true)))
+            | else-first-best w ↦ rw w.best-is (oldest_kept cols a.r least (omega (arith, w.if-first-best.false)))
           ];
     }
