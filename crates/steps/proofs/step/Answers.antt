@@ -1,0 +1,35 @@
+use Rattle.std.proofs.Common.{sym, ap, ◌∙◌}
+use Rattle.broker.specs.State.{State, view}
+use Rattle.protocol.proofs.Laws.Restart.{never_eighteen}
+use Rattle.protocol.proofs.Laws.Step.{step_of_unsound}
+use Rattle.steps.specs.Laws.InPlace.{stepped_in_place}
+use Rattle.steps.specs.Laws.Refused.{refused_step}
+use Rattle.steps_in_place.specs.InPlace.{replied}
+use Rattle.steps.proofs.step.Goals as goal
+
+-- Any other state than a sound one is refused.
+pub returns-then-not-load-clause-result_value : goal.returns-then-not-load-clause-result_value
+returns-then-not-load-clause-result_value c =
+    let failed = sym c.load.ensures.tells ∙ c.if-not-load.true in
+    sym (step_of_unsound (view c.args.broker) c.args.log.now c.args.at failed)
+
+pub returns-then-not-load-clause-never_eighteen : goal.returns-then-not-load-clause-never_eighteen
+returns-then-not-load-clause-never_eighteen c = never_eighteen _
+
+-- A sound state is stepped on the arrays: it stays as it was,
+pub returns-in-Refused-clause-result_value : goal.returns-in-Refused-clause-result_value
+returns-in-Refused-clause-result_value c =
+    let passed = c.if-not-load.false in
+    let stepped =
+    stepped_in_place (view c.args.broker) (sym c.load.ensures.tells ∙ passed) (c.load.ensures.holds passed)
+    c.step_in_place-reply.ensures.steps_in_place in
+    refused_step (view c.args.broker) c.args.log.now c.args.at _ _ c.in-Refused.is stepped
+
+-- or comes back from them.
+pub returns-in-Accepted-clause-result_value : goal.returns-in-Accepted-clause-result_value
+returns-in-Accepted-clause-result_value c =
+    let passed = c.if-not-load.false in
+    let stepped =
+    stepped_in_place (view c.args.broker) (sym c.load.ensures.tells ∙ passed) (c.load.ensures.holds passed)
+    c.step_in_place-reply.ensures.steps_in_place in
+    ap (λ (s : State). replied c.step_in_place-reply.result s) c.unload-after.ensures ∙ stepped
