@@ -74,12 +74,15 @@ pub fn is_folder(path: &str) -> bool {
     Path::new(ROOT).join(path).is_dir()
 }
 
+/// What is built in a folder, and is no source: cargo's and the kit's.
+const BUILT: [&str; 2] = ["target", "out"];
+
 fn add_files(folder: &str, paths: &mut Vec<String>) {
     for name in entries(folder) {
         let path = format!("{folder}/{name}");
         if !is_folder(&path) {
             paths.push(path);
-        } else if name != "target" {
+        } else if !BUILT.contains(&&name[..]) {
             add_files(&path, paths);
         }
     }
@@ -100,6 +103,7 @@ mod tests {
         let has = |path: &str| found.iter().any(|source| source.path == path);
         assert!(has("crates/steps/src/lib.rt") && has("crates/protocol/specs/Step.antt"));
         assert!(!has("crates/example_panel/stdout"));
+        assert!(found.iter().all(|source| !source.path.contains("/out/")));
     }
 
     #[test]
