@@ -1,7 +1,37 @@
 -- The page of promises: all that is promised of the desk, in full, to be read from top to bottom. Each statement stands under the sentence
 -- of paper 01 or 02 that it is for, with all that it speaks of in sight; its proof cites what is proved below. What the entries that users
 -- call promise stands in src/lib.rt in the same way. Assumes nothing.
-use Rattle.std.specs.Prelude.{Bool, true, false, not, ◌&&◌, List, [], ◌∷◌, ◌++◌, map, ◌≡◌, refl, ℕ, suc, ◌+◌, ◌/◌, ◌%◌, ◌^◌, ◌<◌, ◌≤◌, min, leb, ltb, negsuc, pos, length, get_or, drop, replicate}
+use Rattle.std.specs.Prelude.{
+  Bool,
+  true,
+  false,
+  not,
+  ◌&&◌,
+  List,
+  [],
+  ◌∷◌,
+  ◌++◌,
+  map,
+  ◌≡◌,
+  refl,
+  ℕ,
+  suc,
+  ◌+◌,
+  ◌/◌,
+  ◌%◌,
+  ◌^◌,
+  ◌<◌,
+  ◌≤◌,
+  min,
+  leb,
+  ltb,
+  negsuc,
+  pos,
+  length,
+  get_or,
+  drop,
+  replicate,
+}
 use Rattle.std.proofs.Math.Option.{Option, none, some}
 use Rattle.std.proofs.Common.{sym, ap, ◌∙◌}
 use Prim.Native.String.{String}

@@ -20,6 +20,7 @@ pub record Passed (w : Pick) (to : ℕ) (slots : List ℕ) (i n : ℕ) (slots' :
   pub others : columns_of slots' ≡ with_places (columns_of slots) (columns_of slots').places
   pub done : (k : ℕ) → k < i
       → get_or (columns_of slots').places k 0
-      ≡ cond (picked w (get_or (columns_of slots).pairs k 0) (get_or (columns_of slots).places k 0)) to (get_or (columns_of slots).places k 0)
+      ≡ cond (picked w (get_or (columns_of slots).pairs k 0) (get_or (columns_of slots).places k 0)) to
+      (get_or (columns_of slots).places k 0)
   pub rest : (k : ℕ) → i ≤ k → get_or (columns_of slots').places k 0 ≡ get_or (columns_of slots).places k 0
   pub counted : n ≡ hits w (columns_of slots) i

@@ -223,7 +223,8 @@ module _ {A : Type 0} where
   change_first_same p q f kept within (x ∷ l) =
       by_test (q x)
       (λ e. simp (e, kept x, within x e))
-      (λ e. by_test (p x) (λ h. simp (e, h, change_first_same p q f kept within l)) (λ h. simp (e, h, change_first_same p q f kept within l)))
+      (λ e. by_test (p x) (λ h. simp (e, h, change_first_same p q f kept within l))
+      (λ h. simp (e, h, change_first_same p q f kept within l)))
 
   -- Changing the first that passes q leaves alone what passes p, where none of that passes q.
   pub change_first_none : (p q : A → Bool) (f : A → A) → ((x : A) → p (f x) ≡ p x)

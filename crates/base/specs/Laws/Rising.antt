@@ -24,7 +24,8 @@ never_falls_append (y ∷ l) x sorted below =
 
 module _ {A : Type 0} where
   -- Numbers of which one is left out still never fall.
-  pub never_falls_without : (f : A → ℕ) (q : A → Bool) (l : List A) → never_falls (map f l) ≡ true → never_falls (map f (without q l)) ≡ true
+  pub never_falls_without : (f : A → ℕ) (q : A → Bool) (l : List A) → never_falls (map f l) ≡ true
+      → never_falls (map f (without q l)) ≡ true
   never_falls_without f q [] sorted = refl
   never_falls_without f q (x ∷ l) sorted =
       let first : every (λ y. leb (f x) (f y)) l ≡ true = rw every_map at (both_left (every (leb (f x)) (map f l)) _ sorted) in
@@ -60,7 +61,8 @@ module _ {A : Type 0} where
 
   -- Numbers of elements that all pass p never fall when that of the first that passes q is lowered, if p does not see the change and the
   -- number stays no lower than those up to it of elements that do not pass q.
-  pub never_falls_change_first : (g : A → ℕ) (p q : A → Bool) (f : A → A) → ((x : A) → p (f x) ≡ p x) → ((x : A) → q x ≡ true → g (f x) ≤ g x)
+  pub never_falls_change_first : (g : A → ℕ) (p q : A → Bool) (f : A → A) → ((x : A) → p (f x) ≡ p x)
+      → ((x : A) → q x ≡ true → g (f x) ≤ g x)
       → ((x y : A) → p x ≡ true → p y ≡ true → q x ≡ false → q y ≡ true → g x ≤ g y → g x ≤ g (f y))
       → (l : List A) → every p l ≡ true → never_falls (map g l) ≡ true → never_falls (map g (change_first q f l)) ≡ true
   never_falls_change_first g p q f kept lower above [] all sorted = refl

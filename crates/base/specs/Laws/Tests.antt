@@ -1,7 +1,30 @@
 -- Booleans: proofs by the answers of a test or by the order of two numbers, disjunctions, conjunctions and chains of them, and when two
 -- tests are the same.
 -- Assumes nothing.
-use Rattle.std.specs.Prelude.{◌≡◌, refl, Bool, true, false, not, cond, ◌&&◌, ◌||◌, List, [], ◌∷◌, ◌≢◌, ℕ, zero, suc, ◌<◌, ◌≤◌, T, eqb, ltb, get_or}
+use Rattle.std.specs.Prelude.{
+  ◌≡◌,
+  refl,
+  Bool,
+  true,
+  false,
+  not,
+  cond,
+  ◌&&◌,
+  ◌||◌,
+  List,
+  [],
+  ◌∷◌,
+  ◌≢◌,
+  ℕ,
+  zero,
+  suc,
+  ◌<◌,
+  ◌≤◌,
+  T,
+  eqb,
+  ltb,
+  get_or,
+}
 use Rattle.std.proofs.Common.{sym, ◌∙◌, true≢false, eqb-true, ne_eqb, ltb-true, ltb-false}
 use Rattle.std.proofs.Math.Bool.{and-false}
 use Rattle.std.proofs.lemmas.Bool.{eqb-false}

@@ -1,6 +1,18 @@
 -- Laws of numbers as text: the first digits of a number and its last ones. Assumes nothing.
 use Rattle.std.specs.Prelude.{◌≡◌, refl, List, [], ◌∷◌, ◌++◌, ℕ, zero, suc, ◌+◌, ◌*◌, ◌/◌, ◌%◌, ◌≤◌, ◌<◌, ltb}
-use Rattle.std.proofs.Common.{append_assoc, append-nil, div-le_self, le-div_iff_mul-le, le_trans, mod-lt, arith, lt-ltb, le-ltb, ltb-true, ltb-false}
+use Rattle.std.proofs.Common.{
+  append_assoc,
+  append-nil,
+  div-le_self,
+  le-div_iff_mul-le,
+  le_trans,
+  mod-lt,
+  arith,
+  lt-ltb,
+  le-ltb,
+  ltb-true,
+  ltb-false,
+}
 use Rattle.std.proofs.Math.Nat.{div-div-eq-div-mul}
 use Rattle.std.proofs.Math.Arith.{digits_div, digits_mod, mod-mul}
 use Rattle.base.specs.Laws.Tests.{by_test}

@@ -206,4 +206,5 @@ part_calm x a b c ha hb =
     calm_as (calm_kept (calm_connect (calm_connect c a b Closed ha hb) b a Closed hb ha) (part a b x).state refl refl)
     (λ p. refl) (λ p. refl)
     (λ p q.
-    by_test (is_same_rank p b && is_same_rank q a) (λ e. rw e) (λ e. by_test (is_same_rank p a && is_same_rank q b) (λ f. rw (e, f)) (λ f. rw (e, f))))
+    by_test (is_same_rank p b && is_same_rank q a) (λ e. rw e) (λ e. by_test (is_same_rank p a && is_same_rank q b)
+    (λ f. rw (e, f)) (λ f. rw (e, f))))

@@ -169,7 +169,8 @@ module _ (c : Change) (kept : keeps c ≡ true) (s : State) (a b : Rank) (fits :
 
     module _ (q : Place) (rise : up_to p q ≡ true) where
       pub order_kept_lem : message_fits p x y ≡ true → message_fits q x y ≡ true → up_to (c.place p) (c.place q) ≡ true
-      order_kept_lem m n = guarded _ (up_to (c.place p) (c.place q)) (at_place (order_kept c.place x y p) (there 2) q) (both (both m n) rise)
+      order_kept_lem m n = guarded _ (up_to (c.place p) (c.place q)) (at_place (order_kept c.place x y p) (there 2) q)
+          (both (both m n) rise)
 
       pub order_kept_back : message_fits p y x ≡ true → message_fits q y x ≡ true → up_to (c.place_back p) (c.place_back q) ≡ true
       order_kept_back m n =

@@ -38,7 +38,8 @@ drawn_number s v d = leb-true v.1 (drawn_on s v.0) (both_right (ltb v.0 hosts &&
 pub next_apart : (s : State) (h : ℕ) (w : Vmid) → is_drawn s w ≡ true → not (same_vmid (next_vmid s h) w) ≡ true
 next_apart s h w d =
     by_test (same_vmid (next_vmid s h) w)
-    (λ e. let p = drawn_number s (next_vmid s h) (ap (is_drawn s) (same_vmid_eq (next_vmid s h) w e) ∙ d) in absurd (omega arith)) (λ e. rw e)
+    (λ e. let p = drawn_number s (next_vmid s h) (ap (is_drawn s) (same_vmid_eq (next_vmid s h) w e) ∙ d) in
+    absurd (omega arith)) (λ e. rw e)
 
 -- when one more number is drawn on a host: what was drawn stays so, and the next vmid is drawn then
 module _ (s : State) (h : ℕ) (long : length s.drawn ≡ hosts) (host : h < 8) where

@@ -26,7 +26,8 @@ opened_checks s r = Checks.refusal s r
 
 -- the clauses on names, on pairs of ranks and on messages
 unfoldable pub opened_names : State → Bool
-unfolding Sound.names_sound Sound.numbers_in_range Sound.vmids_drawn Sound.calls_drawn Sound.tables_drawn Sound.vmids_apart every_rank every_pair
+unfolding Sound.names_sound Sound.numbers_in_range Sound.vmids_drawn Sound.calls_drawn Sound.tables_drawn Sound.vmids_apart
+    every_rank every_pair
 opened_names s = Sound.names_sound s
 
 unfoldable pub opened_pairs : State → Bool

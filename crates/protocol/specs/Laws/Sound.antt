@@ -56,7 +56,8 @@ pub record Names (s : State) : Type 0 where
   pub tables_drawn_lem : AtPairs (λ a b. cond (is_started (status s b)) (is_drawn s (location s a b)) (same_vmid (location s a b) unknown))
   pub vmids_apart_lem :
       AtPairs
-      (λ a b. cond (is_same_rank a b) (distinct (processes_of (status s a))) (none_shared (processes_of (status s a)) (processes_of (status s b))))
+      (λ a b. cond (is_same_rank a b) (distinct (processes_of (status s a)))
+      (none_shared (processes_of (status s a)) (processes_of (status s b))))
 
 pub record Pairs (s : State) : Type 0 where
   pub nothing_with_self_lem : AtRanks (λ r. is_closed (connection s r r) && is_clear (backlog s r r) && not (asks_for r (request s r)))
@@ -117,7 +118,8 @@ pair_clauses s =
 
 abbrev mail_clauses : State → List Bool
 mail_clauses s =
-    Sound.messages_named s ∷ Sound.ends_fit s ∷ Sound.unheeded_places s ∷ Sound.places_fit s ∷ Sound.places_rise s ∷ Sound.numbers_rise s ∷ []
+    Sound.messages_named s ∷ Sound.ends_fit s ∷ Sound.unheeded_places s ∷ Sound.places_fit s ∷ Sound.places_rise s ∷
+    Sound.numbers_rise s ∷ []
 
 shape_of : (s : State) → Sound.shaped s ≡ true → Shape s
 unfolding Sound.shaped

@@ -68,5 +68,6 @@ value_back v h =
     let third : v / 16777216 ≡ v / 65536 / 256 = sym (div-div-eq-div-mul v 65536 256) in
     let last : v / 16777216 % 256 ≡ v / 16777216 = mod-eq_of_lt (omega arith) in
     rw last
-    (four_digits_lem v (v % 256) (v / 256) (v / 256 % 256) (v / 65536) (v / 65536 % 256) (v / 16777216) (omega arith) (rw second (omega arith))
+    (four_digits_lem v (v % 256) (v / 256) (v / 256 % 256) (v / 65536) (v / 65536 % 256) (v / 16777216) (omega arith)
+    (rw second (omega arith))
     (rw third (omega arith)))

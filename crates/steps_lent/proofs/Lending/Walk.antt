@@ -137,7 +137,8 @@ module _ (f : Name) (τoutcome τlog τref τstate : Ty) (ν : Sym) (τs : Tys) 
 
   module _ {M : Type 1} {𝓤 : Ura M} (𝓛 : Logic 𝓤) (C : Calls 𝓤 𝓛.H) (Λ : Loops 𝓤 𝓛.H) (fm : FmC 𝓤 𝓛.H 𝓛.laws C)
       -- where the reply's fields lie
-      (τanswer : Ty) (next_at : ℕ) (field0 : field_at zero τs 0 ≡ lies (τanswer, 0)) (field1 : field_at zero τs 1 ≡ lies (ty_int w64, next_at))
+      (τanswer : Ty) (next_at : ℕ) (field0 : field_at zero τs 0 ≡ lies (τanswer, 0))
+        (field1 : field_at zero τs 1 ≡ lies (ty_int w64, next_at))
       -- the state's type: its machine values, and its cell
       (S : RattleType) (low : S.Denot → Val) (tells : Tells S (Is S) (λ d. low d ∷ [])) (makes : Makes 𝓛 S (Is S))
       (typed : (d : S.Denot) → Is S d (low d ∷ []) → Typed τstate (low d))

@@ -1,7 +1,17 @@
 -- The columns after a store, and what a read of one is: one law for parts of any lengths, and a name for each column.
 -- Assumes nothing.
 use Rattle.std.specs.Prelude.{List, [], ◌∷◌, ◌≡◌, refl, ℕ, zero, suc, ◌+◌, ◌-◌, ◌<◌, ◌≤◌, length, get_or, set, drop}
-use Rattle.std.proofs.Common.{◌∙◌, arith, length-drop, drop-set-lt, get_or-take, get_or-drop, get_or-set_same, get_or-set_other, length-take-le}
+use Rattle.std.proofs.Common.{
+  ◌∙◌,
+  arith,
+  length-drop,
+  drop-set-lt,
+  get_or-take,
+  get_or-drop,
+  get_or-set_same,
+  get_or-set_other,
+  length-take-le,
+}
 use Rattle.std.proofs.lemmas.List.{take-set-le, drop-set-add}
 use Rattle.std.proofs.Math.Seq.{take-set-lt}
 use Rattle.transit.specs.Columns.{
@@ -64,7 +74,8 @@ parts_at (n ∷ ns) l (suc k) i inside =
     rw z (parts_at ns (drop n l) k i inside ∙ get_or-drop n l (offset ns k + i) 0)
 
 -- A part of a list that is long enough has its length.
-parts_long : (ns l : List ℕ) (k : ℕ) → k < length ns → offset ns k + get_or ns k 0 ≤ length l → length (get_or (parts ns l) k []) ≡ get_or ns k 0
+parts_long : (ns l : List ℕ) (k : ℕ) → k < length ns → offset ns k + get_or ns k 0 ≤ length l
+    → length (get_or (parts ns l) k []) ≡ get_or ns k 0
 parts_long [] l k inside long = absurd (omega arith)
 parts_long (n ∷ ns) l zero inside long = length-take-le n l (omega arith)
 parts_long (n ∷ ns) l (suc k) inside long = parts_long ns (drop n l) k (omega arith) (omega (arith, length-drop n l))

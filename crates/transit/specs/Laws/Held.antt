@@ -1,7 +1,47 @@
 -- What slots hold after one of them is filled, or dies, or what they hold changes: for any columns beside the pairs.
 -- Assumes nothing.
-use Rattle.std.specs.Prelude.{Bool, true, false, not, List, [], ◌∷◌, ◌++◌, map, ◌≢◌, ◌≡◌, refl, ℕ, suc, ◌+◌, ◌<◌, ◌≤◌, ltb, length, get_or, set, take, drop}
-use Rattle.std.proofs.Common.{append-nil, sym, ap, ◌∙◌, add-one, arith, lt-ltb, le-ltb, length-append, length-drop, take-append-drop, take-suc, get_or-take, get_or-drop, length-take-le}
+use Rattle.std.specs.Prelude.{
+  Bool,
+  true,
+  false,
+  not,
+  List,
+  [],
+  ◌∷◌,
+  ◌++◌,
+  map,
+  ◌≢◌,
+  ◌≡◌,
+  refl,
+  ℕ,
+  suc,
+  ◌+◌,
+  ◌<◌,
+  ◌≤◌,
+  ltb,
+  length,
+  get_or,
+  set,
+  take,
+  drop,
+}
+use Rattle.std.proofs.Common.{
+  append-nil,
+  sym,
+  ap,
+  ◌∙◌,
+  add-one,
+  arith,
+  lt-ltb,
+  le-ltb,
+  length-append,
+  length-drop,
+  take-append-drop,
+  take-suc,
+  get_or-take,
+  get_or-drop,
+  length-take-le,
+}
 use Rattle.std.proofs.lemmas.List.{set_split, set-get_or}
 use Rattle.base.specs.Lists.{select, without, change_first, every}
 use Rattle.transit.specs.Slots.{held}
@@ -40,7 +80,8 @@ module _ {A : Type 0} where
 
   -- What live slots hold is changed as the list is.
   pub held_map : (f g : ℕ → ℕ → A) (h : A → A) (ps : List ℕ)
-      → ((k : ℕ) → k < length ps → get_or ps k 0 < cells → g k (get_or ps k 0) ≡ h (f k (get_or ps k 0))) → held g 0 ps ≡ map h (held f 0 ps)
+      → ((k : ℕ) → k < length ps → get_or ps k 0 < cells → g k (get_or ps k 0) ≡ h (f k (get_or ps k 0)))
+      → held g 0 ps ≡ map h (held f 0 ps)
   held_map f g h [] same = refl
   held_map f g h (p ∷ ps) same =
       let rest = held_map (λ k. f (suc k)) (λ k. g (suc k)) h ps (λ k b l. same (suc k) (omega arith) l) in

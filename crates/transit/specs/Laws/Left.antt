@@ -31,7 +31,8 @@ use Rattle.transit.specs.Laws.Take.{front, taken, take_index}
 abbrev pub without_first : List ℕ → ℕ → List ℕ
 without_first s p =
     let at = get_or s (FIRST + p) 0 in
-    set (set (set (set s at DEAD) (FIRST + p) (get_or s (NEXT + at) 0)) (COUNT + p) (get_or s (COUNT + p) 0 - 1)) UNREAD (get_or s UNREAD 0 - 1)
+    set (set (set (set s at DEAD) (FIRST + p) (get_or s (NEXT + at) 0)) (COUNT + p) (get_or s (COUNT + p) 0 - 1)) UNREAD
+    (get_or s UNREAD 0 - 1)
 
 module _ {s v : List ℕ} (a b : Rank) (d : Mail s v) (small_a : a.0 < ranks) (small_b : b.0 < ranks)
     (some : 0 < tally (between a b) (messages_in s v)) where

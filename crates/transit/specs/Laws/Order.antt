@@ -29,7 +29,13 @@ by_place_sorted (m ∷ l) sorted =
     none q p is before =
         select_none (at q) l (every_wider (λ x. leb (place_index m) (place_index x)) (λ x. not (at q x))
         (λ x h.
-        rw (ne_eqb (place_index x) (place_number q) (λ e. omega (arith, e, ap place_number is, leb-true (place_index m) (place_index x) h)))) l
+        rw (ne_eqb (place_index x) (place_number q) (λ e. omega (
+          arith,
+          e,
+          ap place_number is,
+          leb-true (place_index m)
+              (place_index x) h,
+        )))) l
         (rw every_map at (both_left (every (leb (place_index m)) (map place_index l)) _ sorted)))
 
     at_place : (p : Place) → m.place ≡ p → by_place l ≡ l → by_place (m ∷ l) ≡ m ∷ l

@@ -29,7 +29,8 @@ same_rank : (a b c : Rank) → is_same_rank a b ≡ true → is_same_rank a c �
 same_rank a b c p q = eq-eqb b.0 c.0 (sym (eqb-true a.0 b.0 p) ∙ eqb-true a.0 c.0 q)
 
 -- A message is of one pair only.
-pub other_pair : (a b c d : Rank) → (is_same_rank a c && is_same_rank b d) ≡ false → (m : Message) → between a b m ≡ true → between c d m ≡ false
+pub other_pair : (a b c d : Rank) → (is_same_rank a c && is_same_rank b d) ≡ false → (m : Message) → between a b m ≡ true
+    → between c d m ≡ false
 other_pair a b c d differ m of_pair =
     by_test (between c d m)
     (λ e.

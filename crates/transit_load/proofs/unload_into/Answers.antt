@@ -1,4 +1,20 @@
-use Rattle.std.proofs.Common.{arith, rules, ◌≡◌, ◌<◌, ◌≤◌, ◌+◌, refl, ap, ◌∙◌, add-one, length, get_or, length-set, length-append, take-suc-set}
+use Rattle.std.proofs.Common.{
+  arith,
+  rules,
+  ◌≡◌,
+  ◌<◌,
+  ◌≤◌,
+  ◌+◌,
+  refl,
+  ap,
+  ◌∙◌,
+  add-one,
+  length,
+  get_or,
+  length-set,
+  length-append,
+  take-suc-set,
+}
 use Rattle.transit.specs.Columns.{columns_of, TAIL, SLOTS}
 use Rattle.transit.specs.Laws.Columns.{column_sizes, pair_at, place_at, tail_is}
 use Rattle.transit.specs.Laws.Held.{held_live, held_gone, held_part, held_all}

@@ -161,7 +161,8 @@ module _ (s s' : State) (f : Facts s) where
             λ a ha.
             let none = f.pairs.nothing_with_self_lem a ha in
             rw (links a a ha ha, requests a)
-            (by_test (is_same_rank a r) (λ e. rw (e, closed (connection s a a) (link_of s a a) (own_closed s f a ha)) none) (λ e. rw e none));
+            (by_test (is_same_rank a r) (λ e. rw (e, closed (connection s a a) (link_of s a a) (own_closed s f a ha)) none)
+            (λ e. rw e none));
       }
 
   -- The links of two ranks and their calls to one another change: call, route, part, heed and drain.

@@ -117,7 +117,8 @@ module _ {s : State} (f : Shape s) (n : Names s) where
         tables_drawn_lem =
             λ p q hp hq.
             rw (cell_set s.locations a b p q v unknown f.locations_long ha hb hq)
-            (chosen (λ w. cond (is_started (status s q)) (is_drawn s w) (same_vmid w unknown) ≡ true) (is_same_rank p a && is_same_rank q b) v
+            (chosen (λ w. cond (is_started (status s q)) (is_drawn s w) (same_vmid w unknown) ≡ true)
+            (is_same_rank p a && is_same_rank q b) v
             (location s p q) (λ e. rw (same_rank_eq q b (both_right (is_same_rank p a) (is_same_rank q b) e), started) drawn)
             (λ _. n.tables_drawn_lem p q hp hq));
       }
@@ -129,7 +130,8 @@ module _ {s : State} (f : Shape s) (n : Names s) where
         numbers_in_range_lem =
             λ k b.
             rw (drawn_after s h f.drawn_long host k)
-            (chosen (λ (m : ℕ). m ≤ numbers) (eqb k h) (drawn_on s h + 1) (drawn_on s k) (λ _. omega arith) (λ _. n.numbers_in_range_lem k b));
+            (chosen (λ (m : ℕ). m ≤ numbers) (eqb k h) (drawn_on s h + 1) (drawn_on s k) (λ _. omega arith)
+            (λ _. n.numbers_in_range_lem k b));
         vmids_drawn_lem = λ r hr. every_wider (is_drawn s) (is_drawn (draw h s)) still (vmids_of (status s r)) (n.vmids_drawn_lem r hr);
         calls_drawn_lem = λ r hr. of_call_wider is_rank (is_drawn s) (is_drawn (draw h s)) still (request s r) (n.calls_drawn_lem r hr);
         tables_drawn_lem =
@@ -161,7 +163,8 @@ module _ {s : State} (f : Shape s) (n : Names s) where
         vmids_drawn_lem =
             λ a ha.
             rw (after a)
-            (chosen (λ x. every (is_drawn s) (vmids_of x) ≡ true) (is_same_rank a r) t (status s a) (λ _. drawn) (λ _. n.vmids_drawn_lem a ha));
+            (chosen (λ x. every (is_drawn s) (vmids_of x) ≡ true) (is_same_rank a r) t (status s a) (λ _. drawn)
+            (λ _. n.vmids_drawn_lem a ha));
         calls_drawn_lem = λ a ha. rw (request_with_status s r a t) (n.calls_drawn_lem a ha);
         tables_drawn_lem =
             λ a b ha hb.

@@ -45,7 +45,8 @@ abbrev standing : Rank → Rank → Place → Message → Bool
 standing a b p m = between a b m && at p m
 
 -- Such a message is of another pair exactly where the two pairs are the same.
-standing_of : (a b : Rank) (p : Place) (c d : Rank) (m : Message) → standing a b p m ≡ true → between c d m ≡ (is_same_rank a c && is_same_rank b d)
+standing_of : (a b : Rank) (p : Place) (c d : Rank) (m : Message) → standing a b p m ≡ true
+    → between c d m ≡ (is_same_rank a c && is_same_rank b d)
 standing_of a b p c d m h = let is = both_left (between a b m) (at p m) h in rw (sender_of a b m is, receiver_of a b m is)
 
 module _ (u : Unread) (o : InOrder u) where
