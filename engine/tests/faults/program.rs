@@ -18,8 +18,6 @@ use std::process::{Command, Stdio};
 pub const UNREADABLE: &str = "replay: standard input cannot be read\n";
 pub const UNWRITABLE: &str = "replay: standard output cannot be written\n";
 
-const SIGPIPE: i32 = 13;
-
 /// The program that `REPLAY` names, else the one at its usual place.
 fn replay() -> Option<PathBuf> {
     program_at(env::var_os("REPLAY").unwrap_or_else(|| USUAL_PLACE.into()))
@@ -128,7 +126,8 @@ fn a_read_that_fails_later_is_told_after_the_lines_so_far() {
     assert_eq!(end.printed, lines);
 }
 
-/// It is ended by the system, as programs are that write to nobody.
+/// It tells that nobody reads, and stops. The kit's programs ignore the signal
+/// by which the system ends programs that write to nobody.
 #[test]
 fn a_reader_that_goes_away_ends_it() {
     let Some(mut command) = command() else { return };
@@ -142,8 +141,7 @@ fn a_reader_that_goes_away_ends_it() {
     let printed = running.printed_to(1);
     assert!(!printed.is_empty() && expected.starts_with(&printed));
     running.stop_reading();
-    let end = running.end();
-    assert_eq!((end.status.signal(), &end.said[..]), (Some(SIGPIPE), ""));
+    assert_told(&running.end(), UNWRITABLE);
 }
 
 /// Every line is there before the next record comes.

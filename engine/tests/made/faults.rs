@@ -5,7 +5,6 @@ use crate::made_up_log::made_up_log;
 use crate::program::{End, Program};
 use std::fs::{self, File};
 use std::io::Read;
-use std::os::unix::process::ExitStatusExt;
 use std::path::Path;
 use std::process::{Child, ChildStdout, Command, Stdio};
 use std::thread;
@@ -16,8 +15,6 @@ const UNWRITABLE: &str = "standard output cannot be written";
 /// A pass that is longer than what is written at a time, and one without end.
 const LONG: &str = "60000";
 const ENDLESS: &str = "18446744073709551615";
-
-const SIGPIPE: i32 = 13;
 
 /// The log of `1 60000`, and the beginning of every longer one from seed 1.
 fn long_log() -> Vec<u8> {
@@ -79,7 +76,8 @@ fn read(reader: &mut ChildStdout, length: usize) -> Vec<u8> {
     bytes
 }
 
-/// It is ended by the system, as programs are that write to nobody.
+/// It tells that nobody reads, and stops. The kit's programs ignore the signal
+/// by which the system ends programs that write to nobody.
 #[test]
 fn a_reader_that_goes_away_ends_it() {
     let Some(program) = Program::proved() else {
@@ -91,12 +89,11 @@ fn a_reader_that_goes_away_ends_it() {
         assert!(read(&mut reader, length) == log[..length]);
         drop(reader);
         let output = child.wait_with_output().unwrap();
-        let said = String::from_utf8_lossy(&output.stderr);
-        assert_eq!((output.status.signal(), &*said), (Some(SIGPIPE), ""));
+        assert_eq!(End::of(&output), program.telling(UNWRITABLE));
     }
 }
 
-/// Where the system does not end it, it tells that nobody reads, and stops.
+/// So it does where the signal was ignored before.
 #[test]
 fn a_reader_that_goes_away_is_told_where_the_signal_is_ignored() {
     for program in Program::all() {

@@ -20,10 +20,11 @@ pub struct Program {
 }
 
 impl Program {
-    /// The proved program, which stands beside the one that prints runs. It has
-    /// no exit code of its own.
+    /// The proved program, whose crate stands beside that of the one that prints
+    /// runs. It has no exit code of its own.
     pub fn proved() -> Option<Program> {
-        let place = Path::new(USUAL_PLACE).with_file_name("made_up");
+        let crates = Path::new(USUAL_PLACE).ancestors().nth(3).unwrap();
+        let place = crates.join("made_up/out/made_up");
         Some(Program {
             path: program_at(place)?,
             name: "made_up",

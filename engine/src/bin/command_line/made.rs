@@ -5,7 +5,7 @@ use crate::failure::Failure;
 use crate::input::Log;
 use crate::options::Pass;
 use crate::replay;
-use crate::running::{spawn, unreadable, Program};
+use crate::running::{spawn, unreadable, Program, Reader};
 use crate::steps::next_record;
 use engine::standard::plain_file;
 use std::io::{self, BufRead, BufReader, BufWriter, Read, Write};
@@ -59,7 +59,7 @@ impl Generator {
         let mut child = spawn(&mut command, Stdio::null(), Stdio::piped())?;
         let log = child.stdout.take().expect("standard output is piped");
         Ok(Generator {
-            program: Program::watched(child),
+            program: Program::watched(child, Reader::ToTheEnd),
             log: BufReader::with_capacity(PIECE_BYTES, log),
         })
     }
@@ -89,7 +89,7 @@ impl Generator {
 fn replay_all(replay: &Path, log: &mut impl Read) -> Result<Used, Failure> {
     let mut child = spawn(&mut Command::new(replay), Stdio::piped(), Stdio::inherit())?;
     let mut input = child.stdin.take().expect("standard input is piped");
-    let program = Program::watched(child);
+    let program = Program::watched(child, Reader::Beyond);
     let copied = io::copy(log, &mut input);
     drop(input);
     program.end()?;

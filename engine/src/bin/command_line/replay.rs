@@ -2,7 +2,7 @@
 
 use crate::failure::Failure;
 use crate::input::Log;
-use crate::running::{hand_over, spawn, unreadable, Program};
+use crate::running::{hand_over, spawn, unreadable, Program, Reader};
 use std::io::Read;
 use std::path::Path;
 use std::process::{Command, Stdio};
@@ -15,7 +15,8 @@ pub fn replay(program: &Path, log: Log) -> Result<(), Failure> {
         Log::Whole(file) => {
             let mut command = Command::new(program);
             let child = spawn(&mut command, Stdio::from(file), Stdio::inherit())?;
-            Program::watched(child).end().map(|_| ())
+            let program = Program::watched(child, Reader::Beyond);
+            program.end().map(|_| ())
         }
         Log::Handed(bytes) => replay_handed(program, bytes),
     }
@@ -33,7 +34,7 @@ fn replay_handed(program: &Path, log: Box<dyn Read + Send>) -> Result<(), Failur
             Err(error) => unread.send(error).is_ok(),
         });
     });
-    Program::watched(child).end()?;
+    Program::watched(child, Reader::Beyond).end()?;
     told.try_recv()
         .map_or(Ok(()), |error| Err(unreadable(&error)))
 }

@@ -3,7 +3,9 @@
 
 use crate::failure::Failure;
 use crate::input::Log;
+use engine::standard::plain_file;
 use std::io::{self, BufReader, Cursor, ErrorKind, Read, Write};
+use std::os::unix::fs::FileTypeExt;
 use std::path::Path;
 use std::process::{Child, ChildStderr, ChildStdin, ChildStdout, Command, ExitStatus, Stdio};
 use std::sync::mpsc::{self, Receiver};
@@ -22,8 +24,31 @@ pub struct Running {
 /// A program itself, and what it says on standard error.
 pub struct Program {
     child: Child,
-    said: JoinHandle<bool>,
+    said: JoinHandle<Said>,
 }
+
+/// Who reads what a program prints.
+#[derive(Clone, Copy)]
+pub enum Reader {
+    /// This program, to the end.
+    ToTheEnd,
+    /// This program, as far as it wants to.
+    AsFarAsWanted,
+    /// Whoever reads this program's own output.
+    Beyond,
+}
+
+/// What a program has said.
+enum Said {
+    Nothing,
+    /// What was passed on.
+    Words,
+    /// That its output cannot be written, since nobody reads that any more.
+    ReaderGone,
+}
+
+/// How it says that its output cannot be written, behind its name.
+const UNWRITABLE: &[u8] = b": standard output cannot be written\n";
 
 /// A log that another thread hands to the program, piece by piece, for those
 /// who read it beside the program.
@@ -48,7 +73,7 @@ pub fn start(program: &Path, log: Log) -> Result<Running, Failure> {
             piece: Cursor::new(Vec::new()),
         },
         printed: BufReader::new(printed),
-        program: Program::watched(child),
+        program: Program::watched(child, Reader::AsFarAsWanted),
     })
 }
 
@@ -74,20 +99,22 @@ impl Running {
 
 impl Program {
     /// A program whose standard error is passed on.
-    pub fn watched(mut child: Child) -> Program {
+    pub fn watched(mut child: Child, reader: Reader) -> Program {
         let said = child.stderr.take().expect("standard error is piped");
         Program {
             child,
-            said: thread::spawn(move || pass_on(said)),
+            said: thread::spawn(move || pass_on(said, reader)),
         }
     }
 
     /// Waits for the program's end. It has no exit status of its own: it says
-    /// what failed. A signal ends it where its reader went away.
+    /// what failed. Where its reader went away, that is no failure of its own.
     pub fn end(mut self) -> Result<ExitStatus, Failure> {
         let ended = self.child.wait();
-        if self.said.join().expect("passing on does not panic") {
-            return Err(Failure::SaidAlready);
+        match self.said.join().expect("passing on does not panic") {
+            Said::Words => return Err(Failure::SaidAlready),
+            Said::ReaderGone => return Err(Failure::ReaderGone),
+            Said::Nothing => {}
         }
         ended.map_err(|error| Failure::Told(format!("the program got lost: {error}")))
     }
@@ -105,12 +132,34 @@ pub fn unreadable(error: &io::Error) -> Failure {
     Failure::Told(format!("the log cannot be read to its end: {error}"))
 }
 
-/// Passes on what the program says, and tells whether it said anything.
-fn pass_on(mut said: ChildStderr) -> bool {
+/// Passes on what the program says, but for what it says where nobody reads.
+fn pass_on(mut said: ChildStderr, reader: Reader) -> Said {
     let mut text = Vec::new();
     let _ = said.read_to_end(&mut text);
+    if text.is_empty() {
+        return Said::Nothing;
+    }
+    if text.ends_with(UNWRITABLE) {
+        match reader {
+            Reader::AsFarAsWanted => return Said::Nothing,
+            Reader::Beyond if is_gone() => return Said::ReaderGone,
+            Reader::Beyond | Reader::ToTheEnd => {}
+        }
+    }
     let _ = io::stderr().write_all(&text);
-    !text.is_empty()
+    Said::Words
+}
+
+/// Whether nobody reads this program's output, which another one could not
+/// write: to a pipe that is open a byte more could be written.
+fn is_gone() -> bool {
+    let Ok(mut output) = plain_file(io::stdout()) else {
+        return false;
+    };
+    let kind = output.metadata().map(|output| output.file_type());
+    let is_pipe = kind.is_ok_and(|kind| kind.is_fifo() || kind.is_socket());
+    let is_broken = |error: io::Error| error.kind() == ErrorKind::BrokenPipe;
+    is_pipe && output.write_all(b"\n").is_err_and(is_broken)
 }
 
 /// Hands a log to the program, and each piece before that to `heard`, which
