@@ -1,0 +1,13 @@
+-- It is the contract of the step that is called, in full. Assumes nothing.
+use Rattle.answer.specs.Answer.{NeverEighteen}
+use Rattle.promises.proofs.step_of_a_lent_state.Goals as goal
+
+pub returns-clause-exact : goal.returns-clause-exact
+returns-clause-exact c = c.step_by_lending.ensures.result_value
+
+pub returns-clause-refused_unchanged : goal.returns-clause-refused_unchanged
+returns-clause-refused_unchanged c = c.step_by_lending.ensures.refused_unchanged
+
+pub returns-clause-never_eighteen : goal.returns-clause-never_eighteen
+unfolding NeverEighteen
+returns-clause-never_eighteen c = c.step_by_lending.ensures.never_eighteen
