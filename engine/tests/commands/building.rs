@@ -179,6 +179,8 @@ fn a_change_elsewhere_builds_nothing() {
 
 /// What the kit says of a failure, and what is shown of it.
 const FAILURE: &str = "\
+rt: page: another copy of the repository is building this library; waiting for it
+rt: page: begins with what a check kept in /other/crates/page
 rt: chose --jobs 2 for page
 fn page::put: proved
 statements std: modules loaded=5 checked=0

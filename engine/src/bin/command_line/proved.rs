@@ -193,7 +193,14 @@ fn goes_well(line: &str) -> bool {
         "rt: chose ",
         "rt: running ",
     ];
-    line.ends_with(": proved") || beginnings.iter().any(|first| line.starts_with(first))
+    // What another copy of the repository has proved of the same is used here.
+    let shared = [
+        ": begins with what a check kept in ",
+        ": another copy of the repository is building this library",
+    ];
+    line.ends_with(": proved")
+        || beginnings.iter().any(|first| line.starts_with(first))
+        || shared.iter().any(|part| line.contains(part))
 }
 
 fn say(text: &str) {
