@@ -1,2 +1,0 @@
--- What the proof of a caller cites.
-pub mod Lending

@@ -1,2 +1,0 @@
--- What the walks of a step of a lent state share.
-pub mod Values
