@@ -15,7 +15,6 @@ use Rattle.replay_stage.specs.declared.Given.{Given}
 use Rattle.replay_stage.specs.declared.Given.TheVariants.{Failed, Nothing, Bytes}
 use Rattle.replay_stage.specs.declared.Stage.{Stage}
 use Rattle.replay_stage.specs.declared.Then.{Then}
-use Rattle.replay_stage.specs.declared.Then.TheVariants as Then
 
 -- a turn may be followed by a read, and both by a stop
 abbrev rank : Then → ℕ
