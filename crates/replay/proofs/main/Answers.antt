@@ -1,0 +1,31 @@
+-- The laws of the course say what a turn and a read do to where the program stands. Assumes nothing.
+use Rattle.std.proofs.Common.{◌+◌, ◌-◌, ◌≤◌, ◌∙◌, arith, length, of_z, refl, rules, sym, to_z, w64}
+use borrow.Rule.Slice.PartMut.{mid_of, put_mid}
+use Rattle.std.proofs.lemmas.Slice.{take-put_mid_below}
+use Rattle.replay_course.specs.Laws.Course.{runs_begun, runs_turn, runs_read}
+use Rattle.replay.proofs.main.Goals as goal
+
+pub loop-buffer-init : goal.loop-buffer-init
+loop-buffer-init c =
+    let opened = c.open_fresh.ensures in
+    (opened.desk, rw (c.begun-stage.ensures, opened.same) (runs_begun _ _ refl refl))
+
+pub loop-buffer-preserved-in-Turn : goal.loop-buffer-preserved-in-Turn
+loop-buffer-preserved-in-Turn c =
+    let turn = c.take_turn-turned in
+    let runs = runs_turn c.loop-buffer.invariant.1 c.in-Turn.is turn.ensures.advances c.is_ok-wrote.result in
+    (turn.ensures.kept, rw c.after_write-stage.ensures runs)
+
+-- What is held stands in front of what is read.
+pub loop-buffer-preserved : goal.loop-buffer-preserved
+loop-buffer-preserved c =
+    let inv = c.loop-buffer.invariant in
+    let held = c.loop-buffer.stage.held in
+    let buffer = c.loop-buffer.buffer in
+    let bytes = c.read.new.buf in
+    let same = take-put_mid_below held (65536 - held) buffer bytes held (omega arith) (omega (arith, inv.1.long.0, inv.1.room)) in
+    let long = c.answer_of-got.array_long ∙ sym inv.1.long.0 in
+    let got = to_z w64 (of_z w64 c.answer_of-got.result) in
+    let lent = length (mid_of held (65536 - held) (put_mid held (65536 - held) buffer bytes)) in
+    let within : held + lent ≤ 65536 = search rules in
+    (inv.0, rw c.take_in-stage.ensures (runs_read inv.1 c.in-Read.is _ same long got lent within))
