@@ -255,6 +255,6 @@ served r xs s h goes =
           ap (λ (n : ℕ). drop n (unread_by r s ++ new)) long ∙ drop-append-add (unread_by r s) new k in
           let all : every (sent_since r s) left ≡ true =
           rw rest (both_right (every (sent_since r s) (ListN.take k new)) _
-            (rw every_append at (rw (← take-append-drop k new) at since))) in
+          (rw every_append at (rw (← take-append-drop k new) at since))) in
           rw (select_map (to r) letter (λ m. refl) (messages (after s xs)), every_map) at all;
     }

@@ -11,9 +11,10 @@ pub loop-ending-preserved : goal.loop-ending-preserved
 loop-ending-preserved g c =
     let piece = c.next_piece-piece in
     let why = rw (← c.next_of-next.ensures, c.in-Again.is) at (because piece.result c.is_ok-written.result) in
-    let stands = c.loop-ending.invariant.0 in
-    (record { written = _; course = further piece.ensures why.0 stands.course },
-      omega (arith, c.loop-ending.invariant.1, piece.auto.buffer))
+    let stands = c.loop-ending.invariant.0 in (
+      record { written = _; course = further piece.ensures why.0 stands.course },
+      omega (arith, c.loop-ending.invariant.1, piece.auto.buffer),
+    )
 
 pub returns-in-End : goal.returns-in-End
 returns-in-End g c =
