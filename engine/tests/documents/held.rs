@@ -7,6 +7,11 @@ use crate::proved_program::{program_at, USUAL_PLACE};
 use crate::release_programs::build_release;
 use crate::{quotes, running_text};
 
+/// The page of the port, which lays what was beside what is, and theorems
+/// without their proofs: of its blocks, and of the commands that it names, many
+/// stand nowhere. Its links are held like those of any page.
+const PORT: &str = "docs/PORT.md";
+
 /// Where the example is built that README builds.
 const TALLY: &str = concat!(
     env!("CARGO_MANIFEST_DIR"),
@@ -53,6 +58,9 @@ fn every_command_prints_what_is_shown() {
 #[test]
 fn every_other_block_shows_a_file() {
     for document in documents() {
+        if document.name == PORT {
+            continue;
+        }
         for block in &document.blocks {
             if block.kind != "console" {
                 if let Err(problem) = quotes::check(block) {
@@ -70,8 +78,10 @@ fn running_text_names_what_is_there() {
     let shown: Vec<String> = shown.map(|shown| shown.command).collect();
     assert!(shown.len() >= 8, "only {} commands are shown", shown.len());
     for document in &documents {
-        running_text::check_commands(document, &shown)
-            .unwrap_or_else(|problem| panic!("{problem}"));
+        if document.name != PORT {
+            running_text::check_commands(document, &shown)
+                .unwrap_or_else(|problem| panic!("{problem}"));
+        }
         running_text::check_links(document).unwrap_or_else(|problem| panic!("{problem}"));
     }
 }
