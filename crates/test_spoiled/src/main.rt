@@ -14,12 +14,27 @@ mod word;
 use broker::state::Broker;
 use change::changed;
 use std::io;
-use std::io::Read;
+use std::io::{Read, Stdin};
 use tell::tell;
 use word::{Word, word_of};
 
 // So many bytes of the list are read.
-const ROOM: u64 = 65536;
+const ROOM: usize = 65536;
+
+// Fills a buffer from the input, up to its end or a read that fails, and tells how many bytes it then has.
+fn fill(mut input: Stdin, buffer: &mut [u8]) -> usize
+    ensures { result ≤ length buffer.new }
+{
+    let mut held: usize = 0;
+    while held < buffer.len() {
+        match input.read(&mut buffer[held..]) {
+            Ok(0) => return held,
+            Ok(count) => held += count,
+            Err(_) => return held,
+        }
+    }
+    held
+}
 
 // Whether a line names the state that the lines before it make.
 fn is_name(line: &[u8]) -> bool {
@@ -79,7 +94,7 @@ fn read_list(rt: &impl Print, text: &[u8]) -> io::Result<()> {
 }
 
 fn main(rt: HostRuntime) -> io::Result<()> {
-    let mut list = Vec::new(rt.alloc());
-    let _ = rt.stdin().take(ROOM).read_to_end(&mut list);
-    read_list(&rt, list.as_slice())
+    let mut list = [0u8; ROOM];
+    let end = fill(rt.stdin(), &mut list);
+    read_list(&rt, &list[..end])
 }

@@ -3,7 +3,7 @@
 // calls answered is added up and printed, so that none of them can be left out.
 #![tactic(auto)]
 
-ghost use Rattle.std.specs.Prelude.{◌≡◌};
+ghost use Rattle.std.specs.Prelude.{◌≡◌, ◌≤◌, length};
 ghost use Rattle.answer.specs.Answer.{NeverEighteen};
 ghost use Rattle.broker.specs.State.{view};
 ghost use Rattle.protocol.specs.Step.{step};
@@ -15,7 +15,7 @@ use broker::state::Broker;
 use roster::{ROSTER_LENGTH, Roster};
 use soundness::is_sound;
 use std::io;
-use std::io::Read;
+use std::io::{Read, Stdin};
 use steps::{Outcome, step};
 use steps_in_place::step_in_place;
 use steps_lent::step_lent;
@@ -35,10 +35,25 @@ const TESTED: u8 = 3;
 const IN_PLACE: u8 = 4;
 
 // So many bytes of the input are read.
-const ROOM: u64 = 65536;
+const ROOM: usize = 65536;
 
 // So many bytes stand before the log.
 const HEAD: usize = 5;
+
+// Fills a buffer from the input, up to its end or a read that fails, and tells how many bytes it then has.
+fn fill(mut input: Stdin, buffer: &mut [u8]) -> usize
+    ensures { result ≤ length buffer.new }
+{
+    let mut held: usize = 0;
+    while held < buffer.len() {
+        match input.read(&mut buffer[held..]) {
+            Ok(0) => return held,
+            Ok(count) => held += count,
+            Err(_) => return held,
+        }
+    }
+    held
+}
 
 // The log is run in place, up to where no record stands.
 fn lead(log: &[u8], slots: &mut Slots, contents: &mut Contents, roster: &mut Roster)
@@ -144,9 +159,9 @@ fn number(a: u8, b: u8, c: u8, d: u8) -> u32 {
 
 // A byte that asks for none of the calls has only the log run.
 fn main(rt: HostRuntime) -> io::Result<()> {
-    let mut text = Vec::new(rt.alloc());
-    let _ = rt.stdin().take(ROOM).read_to_end(&mut text);
-    let input = text.as_slice();
+    let mut text = [0u8; ROOM];
+    let end = fill(rt.stdin(), &mut text);
+    let input = &text[..end];
     if input.len() < HEAD {
         return Ok(());
     }
