@@ -4,5 +4,3 @@ pub mod Printed
 pub mod Wholes
 pub mod Pieces
 pub mod Laws
-pub mod Shown
-pub mod Listing

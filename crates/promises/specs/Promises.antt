@@ -80,14 +80,14 @@ use Rattle.ordering.specs.Laws.Open.{every_move_landed, no_move_open_by_the_list
 use Rattle.ordering.specs.Laws.Ordering.{ordering}
 use Rattle.ordering.specs.Laws.Runs.{fresh_sound, sound_after}
 use Rattle.print_page.specs.Ascii.{ascii_lines}
-use Rattle.print_run.specs.Laws.Pieces.{run_in_pieces, printed_in_pieces}
+use Rattle.print_run.proofs.Laws.Pieces.{run_in_pieces, printed_in_pieces}
 use Rattle.print_run.specs.Laws.Readings.{readings, readings_run}
-use Rattle.print_run.specs.Laws.Steps.{same_state}
-use Rattle.print_run.specs.Listing.{listing_prints, listing_in_pieces}
+use Rattle.print_run.proofs.Laws.Steps.{same_state}
+use Rattle.print_run.proofs.Listing.{listing_prints, listing_in_pieces}
 use Rattle.print_run.specs.Pieces.{Turn, all_bytes, in_pieces}
 use Rattle.print_run.specs.Printed.{printed, text_of}
 use Rattle.print_run.specs.Run.{Answered, Came, run_log}
-use Rattle.print_run.specs.Shown.{shown}
+use Rattle.print_run.proofs.Shown.{shown}
 use Rattle.print_run.specs.Wholes.{is_whole}
 use Rattle.print_course.specs.Course.{Course, RunSoFar, ShortOfEnd}
 use Rattle.print_course.specs.Laws.Course.{course_ends, end_was_read}

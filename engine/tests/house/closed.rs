@@ -24,9 +24,9 @@ const COMPUTED: [&str; 8] = [
     "protocol.specs.Laws.Opened.opened",
     "protocol.proofs.Laws.Edges.edges_hold",
     "protocol.proofs.Laws.Values.values_hold",
-    "print_run.specs.Shown.shown",
-    "print_run.specs.Shown.prints_shown",
-    "print_run.specs.Listing.listing_prints",
+    "print_run.proofs.Shown.shown",
+    "print_run.proofs.Shown.prints_shown",
+    "print_run.proofs.Listing.listing_prints",
     "promises.specs.Promises.edges_print",
     "promises.specs.Promises.kinds_print",
 ];

@@ -6,7 +6,7 @@ use Rattle.record.specs.Record.{decode}
 use Rattle.protocol.specs.Sound.{sound}
 use Rattle.broker.specs.State.{State, fresh}
 use Rattle.ordering.specs.Laws.Runs.{fresh_sound}
-use Rattle.print_run.specs.Laws.Pieces.{printed_is_left}
+use Rattle.print_run.proofs.Laws.Pieces.{printed_is_left}
 use Rattle.print_run.specs.Printed.{printed}
 use Rattle.print_course.specs.Course.{Course, ShortOfEnd}
 use Rattle.print_course.specs.Course.Course.{begun, reads, turns}

@@ -1,7 +1,7 @@
 -- Nothing at the input's end, and else the line of what stands there.
 use Rattle.std.proofs.Common.{ap, sym, append-nil, add-zero, arith}
 use Rattle.print_page.specs.Laws.Put.{nothing, at_most, as_text}
-use Rattle.print_run.specs.Laws.Ending.{closing_at_end, closing_by_kind}
+use Rattle.print_run.proofs.Laws.Ending.{closing_at_end, closing_by_kind}
 use Rattle.print_run.specs.Printed.{lines_of}
 use Rattle.print_ending.proofs.closing_line.Goals as goal
 

@@ -12,7 +12,7 @@ use Rattle.broker.specs.State.{State}
 use Rattle.protocol.specs.Step.{Settlement, settle}
 use Rattle.record.specs.declared.Decoded.TheVariants.{Whole}
 use Rattle.record.specs.declared.Record.{Record}
-use Rattle.print_run.specs.Laws.Steps.{settled_sound}
+use Rattle.print_run.proofs.Laws.Steps.{settled_sound}
 use Rattle.print_run.specs.Laws.Text.{lines_append}
 use Rattle.print_run.specs.Laws.Wholes.{one_last, run_within, in_a_row, wholes_dropped}
 use Rattle.print_run.specs.Laws.Window.{stands}

@@ -11,7 +11,7 @@ use Rattle.record.specs.declared.Decoded.{Decoded}
 use Rattle.record.specs.declared.Decoded.TheVariants.{Whole, Unknown, Cut}
 use Rattle.print_buffer.specs.Buffer.{Kept}
 use Rattle.print_last.specs.Last.{ending_room}
-use Rattle.print_run.specs.Laws.Pieces.{piece_first, left_over, unknown_ends}
+use Rattle.print_run.proofs.Laws.Pieces.{piece_first, left_over, unknown_ends}
 use Rattle.print_run.specs.Laws.Text.{text_behind}
 use Rattle.print_run.specs.Laws.Window.{Seen, seen, moved, decode_dropped}
 use Rattle.print_run.specs.Laws.Window.Seen.{seen_cut, seen_end}

@@ -2,7 +2,7 @@
 use Rattle.std.specs.Prelude.{List, [], ◌∷◌, map, ◌≡◌, refl}
 use Rattle.broker.specs.State.{fresh}
 use Rattle.print_run.specs.Printed.{printed}
-use Rattle.print_run.specs.Shown.{shown, prints_shown}
+use Rattle.print_run.proofs.Shown.{shown, prints_shown}
 use Rattle.promises.specs.Words.{Run}
 
 pub all_shown : (rs : List Run) →

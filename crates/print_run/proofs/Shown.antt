@@ -5,7 +5,7 @@ use Rattle.print_lines.specs.Lines.{record_line, pair_line, pair_lines}
 use Rattle.protocol.specs.Laws.Opened.{opened}
 use Rattle.broker.specs.State.{fresh}
 use Rattle.ordering.specs.Laws.Runs.{fresh_sound}
-use Rattle.print_run.specs.Laws.Pieces.{printed_is_left}
+use Rattle.print_run.proofs.Laws.Pieces.{printed_is_left}
 use Rattle.print_run.specs.Printed.{printed}
 use Rattle.print_run.specs.Wholes.{closing, wholes, run_from, left}
 

@@ -8,8 +8,8 @@ use Rattle.record.specs.Record.{decode}
 use Rattle.protocol.specs.Sound.{sound}
 use Rattle.broker.specs.State.{State}
 use Rattle.record.specs.declared.Decoded.TheVariants.{Unknown}
-use Rattle.print_run.specs.Laws.Ending.{closing_by_kind, ended_dropped}
-use Rattle.print_run.specs.Laws.Steps.{run_is_one_pass}
+use Rattle.print_run.proofs.Laws.Ending.{closing_by_kind, ended_dropped}
+use Rattle.print_run.proofs.Laws.Steps.{run_is_one_pass}
 use Rattle.print_run.specs.Laws.Wholes.{none_run, run_within, bound_is_free, in_a_row, all_dropped}
 use Rattle.print_run.specs.Laws.Window.{unknown_inside, unknown_stays}
 use Rattle.print_run.specs.Pieces.{Turn, all_bytes, in_pieces}

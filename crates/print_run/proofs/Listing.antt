@@ -6,10 +6,10 @@ use Rattle.print_page.specs.Ascii.{ascii_lines}
 use Rattle.broker.specs.State.{fresh}
 use Rattle.ordering.specs.Worked.Listing.{log}
 use Rattle.ordering.specs.Laws.Runs.{fresh_sound}
-use Rattle.print_run.specs.Laws.Pieces.{printed_in_pieces}
+use Rattle.print_run.proofs.Laws.Pieces.{printed_in_pieces}
 use Rattle.print_run.specs.Pieces.{Turn, all_bytes, in_pieces}
 use Rattle.print_run.specs.Printed.{text_of, printed}
-use Rattle.print_run.specs.Shown.{shown, prints_shown}
+use Rattle.print_run.proofs.Shown.{shown, prints_shown}
 
 abbrev pub text : List ℕ
 text =

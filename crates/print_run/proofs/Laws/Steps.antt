@@ -18,7 +18,7 @@ use Rattle.answer.specs.declared.Refusal.{Refusal}
 use Rattle.record.specs.declared.Decoded.{Decoded}
 use Rattle.record.specs.declared.Decoded.TheVariants.{Whole, Unknown, Cut}
 use Rattle.record.specs.declared.Record.{Record}
-use Rattle.print_run.specs.Laws.Ending.{closing_at_end}
+use Rattle.print_run.proofs.Laws.Ending.{closing_at_end}
 use Rattle.print_run.specs.Laws.Wholes.{along, ahead}
 use Rattle.print_run.specs.Laws.Window.{stands}
 use Rattle.print_run.specs.Run.{Came, stops, run_log}
