@@ -31,6 +31,9 @@ const COMPUTED: [&str; 8] = [
     "promises.specs.Promises.kinds_print",
 ];
 
+/// What is computed of a worked example, and is no law: the listing of paper 01.
+const LISTING: &str = "print_run.proofs.Listing.";
+
 /// How a line begins that hands on a name together with the right to open it.
 const HANDS_ON: &str = "unfoldable pub use ";
 
@@ -107,7 +110,7 @@ fn is_worked(name: &str) -> bool {
 fn is_proof(name: &str) -> bool {
     let parts: Vec<&str> = name.split('.').collect();
     let proves = matches!(parts[..], [_, "specs", "Laws", ..] | [_, "proofs", ..]);
-    proves && !is_worked(name)
+    proves && !is_worked(name) && !name.starts_with(LISTING)
 }
 
 /// What opens the lower part's operations, itself or through others.
