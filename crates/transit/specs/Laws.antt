@@ -9,14 +9,9 @@ pub mod Links
 pub mod Put
 pub mod Take
 pub mod Messages
-pub mod Earliest
-pub mod Left
 pub mod Mail
 pub mod Sent
 pub mod Places
-pub mod Passes
-pub mod Search
-pub mod Oldest
 pub mod Appended
 pub mod Loads
 pub mod Promise

@@ -32,6 +32,6 @@ pub const FOUND: [&str; 31] = [
     "roster.specs.Laws.Loaded.fill_process",
     "steps.specs.Laws.Refused.accepted_is_no_refusal",
     "transit.specs.Laws.Loads.empty_none",
-    "transit.specs.Laws.Oldest.oldest_start",
-    "transit.specs.Laws.Search.walk_over",
+    "transit.proofs.Laws.Oldest.oldest_start",
+    "transit.proofs.Laws.Search.walk_over",
 ];

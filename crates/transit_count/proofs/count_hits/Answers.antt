@@ -2,7 +2,7 @@ use Rattle.std.proofs.Common.{refl, add-one, arith}
 use Rattle.transit.specs.Columns.{columns_of}
 use Rattle.transit.specs.Pick.{hits}
 use Rattle.transit.specs.Laws.Columns.{pair_at, place_at}
-use Rattle.transit.specs.Laws.Passes.{one_at_most, hits_few}
+use Rattle.transit.proofs.Laws.Passes.{one_at_most, hits_few}
 use Rattle.transit_count.proofs.count_hits.Goals as goal
 
 pub loop-i-init : goal.loop-i-init

@@ -1,6 +1,6 @@
 use Rattle.std.proofs.Common.{◌∙◌, arith}
 use Rattle.transit.specs.declared.Selection.TheVariants.{ToAt}
-use Rattle.transit.specs.Laws.Passes.{hits_tally}
+use Rattle.transit.proofs.Laws.Passes.{hits_tally}
 use Rattle.transit.specs.Laws.Places.{pick_to, picked_to}
 use Rattle.transit_count.proofs.count_to.Goals as goal
 

@@ -2,9 +2,9 @@ use Rattle.std.proofs.Common.{sym, ap, arith}
 use Rattle.transit.specs.Message.{picks}
 use Rattle.transit.specs.Unread.{head}
 use Rattle.transit.specs.declared.Selection.TheVariants.{BetweenAt}
-use Rattle.transit.specs.Laws.Earliest.{Earliest, earliest_nothing, earliest_live, earliest_found}
+use Rattle.transit.proofs.Laws.Earliest.{Earliest, earliest_nothing, earliest_live, earliest_found}
 use Rattle.transit.specs.Laws.Mail.{none_in, between_past_sender, between_past_receiver}
-use Rattle.transit.specs.Laws.Search.{reached_earliest}
+use Rattle.transit.proofs.Laws.Search.{reached_earliest}
 use Rattle.transit_find.proofs.first_at.Goals as goal
 use Rattle.transit_find.proofs.first_at.Goals.{After-seek-at}
 

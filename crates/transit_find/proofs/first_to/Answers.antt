@@ -2,9 +2,9 @@ use Rattle.std.proofs.Common.{sym, ap, arith}
 use Rattle.transit.specs.Message.{picks}
 use Rattle.transit.specs.Unread.{head}
 use Rattle.transit.specs.declared.Selection.TheVariants.{To}
-use Rattle.transit.specs.Laws.Earliest.{Earliest, earliest_nothing, earliest_live, earliest_found}
+use Rattle.transit.proofs.Laws.Earliest.{Earliest, earliest_nothing, earliest_live, earliest_found}
 use Rattle.transit.specs.Laws.Mail.{none_in, receiver_past}
-use Rattle.transit.specs.Laws.Oldest.{oldest_earliest}
+use Rattle.transit.proofs.Laws.Oldest.{oldest_earliest}
 use Rattle.transit_find.proofs.first_to.Goals as goal
 use Rattle.transit_find.proofs.first_to.Goals.{After-wide-at}
 

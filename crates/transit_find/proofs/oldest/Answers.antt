@@ -2,7 +2,7 @@ use Rattle.std.proofs.Common.{◌+◌, ◌*◌, arith}
 use Rattle.transit.specs.Columns.{columns_of}
 use Rattle.transit.specs.Message.{ranks}
 use Rattle.transit.specs.Laws.Columns.{first_at}
-use Rattle.transit.specs.Laws.Oldest.{oldest_less, oldest_kept}
+use Rattle.transit.proofs.Laws.Oldest.{oldest_less, oldest_kept}
 use Rattle.transit_find.proofs.oldest.Goals as goal
 use Rattle.transit_find.proofs.oldest.Goals.{then-first-best, else-first-best}
 

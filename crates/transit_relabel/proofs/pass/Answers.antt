@@ -1,5 +1,5 @@
 use Rattle.std.proofs.Common.{arith}
-use Rattle.transit.specs.Laws.Passes.{one_at_most, pass_start, pass_next}
+use Rattle.transit.proofs.Laws.Passes.{one_at_most, pass_start, pass_next}
 use Rattle.transit_relabel.proofs.pass.Goals as goal
 
 pub loop-i-init : goal.loop-i-init

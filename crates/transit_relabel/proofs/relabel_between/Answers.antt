@@ -1,6 +1,6 @@
 use Rattle.std.proofs.Common.{arith}
 use Rattle.transit.specs.declared.Selection.TheVariants.{BetweenAt}
-use Rattle.transit.specs.Laws.Passes.{pass_end}
+use Rattle.transit.proofs.Laws.Passes.{pass_end}
 use Rattle.transit.specs.Laws.Places.{pick_between, picked_between}
 use Rattle.transit_relabel.proofs.relabel_between.Goals as goal
 

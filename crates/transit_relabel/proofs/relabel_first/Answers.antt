@@ -2,7 +2,7 @@ use Rattle.transit.specs.Columns.{columns_of}
 use Rattle.transit.specs.Index.{Index}
 use Rattle.transit.specs.Search.{Reached}
 use Rattle.transit.specs.Message.{place_number, pair_of}
-use Rattle.transit.specs.Laws.Search.{first_changed, first_unchanged}
+use Rattle.transit.proofs.Laws.Search.{first_changed, first_unchanged}
 use Rattle.transit_relabel.proofs.relabel_first.Goals as goal
 use Rattle.transit_relabel.proofs.relabel_first.Goals.{After-seek-at}
 

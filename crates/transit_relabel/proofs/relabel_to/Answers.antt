@@ -1,6 +1,6 @@
 use Rattle.std.proofs.Common.{arith}
 use Rattle.transit.specs.declared.Selection.TheVariants.{ToAt}
-use Rattle.transit.specs.Laws.Passes.{pass_end}
+use Rattle.transit.proofs.Laws.Passes.{pass_end}
 use Rattle.transit.specs.Laws.Places.{pick_to, picked_to}
 use Rattle.transit_relabel.proofs.relabel_to.Goals as goal
 

@@ -1,6 +1,6 @@
 use Rattle.std.proofs.Common.{◌+◌, ◌<◌, ◌≤◌, get_or, arith}
 use Rattle.transit.specs.Columns.{FIRST, COUNT, UNREAD, SLOTS}
-use Rattle.transit.specs.Laws.Left.{reads_inside, first_live, has_left}
+use Rattle.transit.proofs.Laws.Left.{reads_inside, first_live, has_left}
 use Rattle.transit_remove.proofs.remove.Goals as goal
 use Rattle.transit_remove.proofs.remove.Goals.{After-pair_of-pair}
 

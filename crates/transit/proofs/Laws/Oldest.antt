@@ -8,7 +8,7 @@ use Rattle.transit.specs.Message.{picks, ranks}
 use Rattle.transit.specs.Search.{Oldest}
 use Rattle.transit.specs.declared.Rank.{Rank}
 use Rattle.transit.specs.declared.Selection.TheVariants.{To}
-use Rattle.transit.specs.Laws.Earliest.{Earliest}
+use Rattle.transit.proofs.Laws.Earliest.{Earliest}
 use Rattle.base.specs.Laws.Tests.{by_equal}
 
 module _ (c : Columns) (r : ℕ) where

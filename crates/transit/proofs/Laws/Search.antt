@@ -13,7 +13,7 @@ use Rattle.transit.specs.declared.Place.{Place}
 use Rattle.transit.specs.declared.Rank.{Rank}
 use Rattle.transit.specs.declared.Selection.TheVariants.{BetweenAt}
 use Rattle.transit.specs.Laws.Columns.{column_sizes, store_place, place_at, next_at, first_at}
-use Rattle.transit.specs.Laws.Earliest.{Earliest, earliest_nothing, earliest_changed}
+use Rattle.transit.proofs.Laws.Earliest.{Earliest, earliest_nothing, earliest_changed}
 use Rattle.base.specs.Laws.Lists.{length_change_first, change_first_unmet}
 use Rattle.base.specs.Laws.Stores.{read_set}
 use Rattle.base.specs.Laws.Tests.{by_equal, by_less, both}

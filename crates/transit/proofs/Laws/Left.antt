@@ -19,7 +19,7 @@ use Rattle.transit.specs.Laws.Columns.{
   count_at,
   unread_is,
 }
-use Rattle.transit.specs.Laws.Earliest.{Earliest, earliest_live, earliest_found, earliest_without}
+use Rattle.transit.proofs.Laws.Earliest.{Earliest, earliest_live, earliest_found, earliest_without}
 use Rattle.transit.specs.Laws.Links.{first_some}
 use Rattle.base.specs.Laws.Lists.{tally_bounded, length_without, tally_without}
 use Rattle.base.specs.Laws.Stores.{read_set}
