@@ -1,7 +1,7 @@
 -- The state that the lent arrays of a run hold, what holds of the arrays, and what the functions of a kind promise.
 -- Paper 01, "Names and places" and "What the contracts carry". Assumes nothing.
 use Rattle.std.specs.Prelude.{true, List, ◌≡◌, ℕ}
-use Rattle.transit.specs.Mail.{Mail, unread_in}
+use Rattle.transit.specs.Mail.{IsMail, unread_in}
 use Rattle.transit.specs.Unread.{Unread}
 use Rattle.protocol.specs.Checks.{refusal}
 use Rattle.protocol.specs.Done.{Done}
@@ -12,14 +12,19 @@ use Rattle.record.specs.declared.Record.{Record}
 use Rattle.roster.specs.Roster.{ranks_of, Whole}
 use Rattle.verdict.specs.Verdict.{verdict_of}
 use Rattle.verdict.specs.declared.Verdict.{Verdict}
+use Rattle.desk.specs.declared.Desk.{Desk}
 
 -- the state that the arrays hold
 abbrev pub desk_of : List ℕ → List ℕ → List ℕ → State
 desk_of slots contents roster = with_unread (unread_in slots contents) (ranks_of roster)
 
+-- the state that a desk in place holds
+abbrev pub state_of : Desk → State
+state_of d = desk_of d.mail.slots d.mail.contents d.roster
+
 -- what holds of the arrays before and after each step
-pub record Desk (slots contents roster : List ℕ) : Type 0 where
-  pub mail : Mail slots contents
+pub record IsDesk (slots contents roster : List ℕ) : Type 0 where
+  pub mail : IsMail slots contents
   pub long : Whole roster
 
 -- the verdict is the refusal of the definition
@@ -37,5 +42,5 @@ pub record RosterDoes (f : State → Done) (roster : List ℕ) (v : Values) (ros
 
 -- a change of the whole desk, where it was sound
 pub record DeskDoes (f : State → Done) (slots contents roster : List ℕ) (v : Values) (slots' contents' roster' : List ℕ) : Type 0 where
-  pub kept : Desk slots' contents' roster'
+  pub kept : IsDesk slots' contents' roster'
   pub does : sound (desk_of slots contents roster) ≡ true → Does f (desk_of slots contents roster) v (desk_of slots' contents' roster')

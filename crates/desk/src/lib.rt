@@ -1,2 +1,12 @@
-// The state that the lent arrays of a run hold, and what the kinds promise of it: all of it is in `specs`.
+// The state in place, as a run works on it, and what the kinds promise of it.
 #![tactic(auto)]
+
+use roster::Roster;
+use transit::mail::Mail;
+
+// The unread messages, and what is known of the ranks.
+#[derive(Drop)]
+pub struct Desk {
+    pub mail: Mail,
+    pub roster: Roster,
+}

@@ -5,7 +5,7 @@ ghost use Rattle.std.specs.Prelude.{◌≡◌, ◌<◌};
 ghost use Rattle.transit.specs.Message.{ranks};
 ghost use Rattle.protocol.specs.Migrate.{drain};
 ghost use Rattle.record.specs.declared.Record.{Record};
-ghost use Rattle.desk.specs.Desk.{desk_of, Desk, DeskDoes, Judges};
+ghost use Rattle.desk.specs.Desk.{desk_of, IsDesk, DeskDoes, Judges};
 ghost use Rattle.verdict.specs.Verdict.{verdict_of, passed, judged};
 ghost use Rattle.kind_drain.specs.Tests.{drain_tests};
 
@@ -46,7 +46,7 @@ pub fn drain_verdict(
     contents: &Contents,
     roster: &Roster,
 ) -> Verdict
-    requires { Desk slots.now contents.now roster.now }
+    requires { IsDesk slots.now contents.now roster.now }
     ensures { Judges (Record.Drain r p) (desk_of slots.now contents.now roster.now) result }
 {
     let mover = standing_of(r, roster);
@@ -65,7 +65,7 @@ pub fn drain(
     contents: &Contents,
     roster: &mut Roster,
 ) -> Values
-    requires desk { Desk slots.old contents.now roster.old }
+    requires desk { IsDesk slots.old contents.now roster.old }
     requires r_lt_ranks { (r.0 < ranks) × (p.0 < ranks) }
     ensures { DeskDoes (drain r p) slots.old contents.now roster.old result slots.new
         contents.now roster.new }

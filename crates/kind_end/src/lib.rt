@@ -2,7 +2,7 @@
 #![tactic(auto)]
 
 ghost use Rattle.std.specs.Prelude.{◌≡◌};
-ghost use Rattle.transit.specs.Mail.{Mail};
+ghost use Rattle.transit.specs.Mail.{IsMail};
 ghost use Rattle.protocol.specs.Life.{end};
 ghost use Rattle.record.specs.declared.Record.{Record};
 ghost use Rattle.roster.specs.Roster.{Whole};
@@ -32,7 +32,7 @@ fn end_checked(r: Rank, standing: Status, request: Request, alone: bool, found: 
 }
 
 pub fn end_verdict(r: Rank, slots: &Slots, contents: &Contents, roster: &Roster) -> Verdict
-    requires mail { Mail slots.now contents.now }
+    requires mail { IsMail slots.now contents.now }
     requires whole { Whole roster.now }
     ensures { Judges (Record.End r) (desk_of slots.now contents.now roster.now) result }
 {

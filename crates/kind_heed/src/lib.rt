@@ -2,7 +2,7 @@
 #![tactic(auto)]
 
 ghost use Rattle.std.specs.Prelude.{List, ◌≡◌, ℕ, ◌<◌};
-ghost use Rattle.transit.specs.Mail.{Mail};
+ghost use Rattle.transit.specs.Mail.{IsMail};
 ghost use Rattle.transit.specs.Message.{ranks};
 ghost use Rattle.transit.specs.Unread.{Unread};
 ghost use Rattle.protocol.specs.Migrate.{heed};
@@ -46,7 +46,7 @@ pub fn heed_verdict(b: Rank, r: Rank, roster: &Roster) -> Verdict
 pub fn heed(b: Rank, r: Rank, slots: &mut Slots, roster: &mut Roster) -> Values
     requires whole { Whole roster.old }
     requires b_lt_ranks { (b.0 < ranks) × (r.0 < ranks) }
-    ensures { (contents : List ℕ) → Mail slots.old contents → DeskDoes (heed b r) slots.old contents
+    ensures { (contents : List ℕ) → IsMail slots.old contents → DeskDoes (heed b r) slots.old contents
         roster.old result slots.new contents roster.new }
 {
     let moved = relabel_between(r, b, Place::Channel, Place::EndList, slots);

@@ -2,7 +2,7 @@
 #![tactic(auto)]
 
 ghost use Rattle.std.specs.Prelude.{List, ◌≡◌, ℕ, ◌<◌};
-ghost use Rattle.transit.specs.Mail.{Mail};
+ghost use Rattle.transit.specs.Mail.{IsMail};
 ghost use Rattle.transit.specs.Message.{ranks};
 ghost use Rattle.transit.specs.Unread.{Unread};
 ghost use Rattle.protocol.specs.Migrate.{land};
@@ -45,7 +45,7 @@ pub fn land_verdict(r: Rank, roster: &Roster) -> Verdict
 pub fn land(r: Rank, slots: &mut Slots, roster: &mut Roster) -> Values
     requires whole { Whole roster.old }
     requires r_lt_ranks { r.0 < ranks }
-    ensures { (contents : List ℕ) → Mail slots.old contents → DeskDoes (land r) slots.old contents
+    ensures { (contents : List ℕ) → IsMail slots.old contents → DeskDoes (land r) slots.old contents
         roster.old result slots.new contents roster.new }
 {
     let standing = standing_of(r, roster);

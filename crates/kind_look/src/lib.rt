@@ -2,12 +2,12 @@
 #![tactic(auto)]
 
 ghost use Rattle.std.specs.Prelude.{List, ◌≡◌, ℕ};
-ghost use Rattle.transit.specs.Mail.{Mail};
+ghost use Rattle.transit.specs.Mail.{IsMail};
 ghost use Rattle.transit.specs.Unread.{sender_in};
 ghost use Rattle.protocol.specs.Messages.{look};
 ghost use Rattle.record.specs.declared.Record.{Record};
 ghost use Rattle.roster.specs.Roster.{Whole};
-ghost use Rattle.desk.specs.Desk.{desk_of, Desk, DeskDoes, Judges};
+ghost use Rattle.desk.specs.Desk.{desk_of, IsDesk, DeskDoes, Judges};
 ghost use Rattle.verdict.specs.Verdict.{verdict_of, passed, judged};
 ghost use Rattle.kind_look.specs.Tests.{look_tests};
 
@@ -29,7 +29,7 @@ fn look_checked(r: Rank, receiver: Status, found: Found) -> Verdict
 }
 
 pub fn look_verdict(r: Rank, slots: &Slots, contents: &Contents, roster: &Roster) -> Verdict
-    requires { Desk slots.now contents.now roster.now }
+    requires { IsDesk slots.now contents.now roster.now }
     ensures { Judges (Record.Look r) (desk_of slots.now contents.now roster.now) result }
 {
     let receiver = standing_of(r, roster);
@@ -49,7 +49,7 @@ fn sender_in(found: Found) -> Rank
 
 // The rank named is the sender of the message that was sent first of all those unread by `r`.
 pub fn look(r: Rank, slots: &Slots, contents: &Contents) -> Values
-    requires { Mail slots.now contents.now }
+    requires { IsMail slots.now contents.now }
     ensures { (roster : List ℕ) → Whole roster → DeskDoes (look r) slots.now
         contents.now roster result slots.now contents.now roster }
 {

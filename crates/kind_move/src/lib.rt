@@ -2,7 +2,7 @@
 #![tactic(auto)]
 
 ghost use Rattle.std.specs.Prelude.{List, ◌≡◌, ℕ, ◌<◌};
-ghost use Rattle.transit.specs.Mail.{Mail};
+ghost use Rattle.transit.specs.Mail.{IsMail};
 ghost use Rattle.transit.specs.Message.{ranks};
 ghost use Rattle.transit.specs.Unread.{Unread};
 ghost use Rattle.protocol.specs.Migrate.{move};
@@ -53,7 +53,7 @@ pub fn move_to(r: Rank, host: u8, slots: &mut Slots, roster: &mut Roster) -> Val
     requires whole { Whole roster.old }
     requires r_lt_ranks { r.0 < ranks }
     requires host_bound { drawn_on (ranks_of roster.old) host < numbers }
-    ensures { (contents : List ℕ) → Mail slots.old contents → DeskDoes (move r host) slots.old contents
+    ensures { (contents : List ℕ) → IsMail slots.old contents → DeskDoes (move r host) slots.old contents
         roster.old result slots.new contents roster.new }
 {
     let standing = standing_of(r, roster);

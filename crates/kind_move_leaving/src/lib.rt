@@ -2,7 +2,7 @@
 #![tactic(auto)]
 
 ghost use Rattle.std.specs.Prelude.{List, ℕ, ◌<◌};
-ghost use Rattle.transit.specs.Mail.{Mail};
+ghost use Rattle.transit.specs.Mail.{IsMail};
 ghost use Rattle.transit.specs.Message.{ranks};
 ghost use Rattle.protocol.specs.Migrate.{leave, leave_all};
 ghost use Rattle.broker.specs.State.{with_links};
@@ -61,7 +61,7 @@ pub fn leave_all(r: Rank, roster: &mut Roster)
 // The messages to `r` stay with its source process.
 pub fn leave_behind(r: Rank, slots: &mut Slots)
     requires { r.0 < ranks }
-    ensures { (contents : List ℕ) → Mail slots.old contents → LeftBehind r slots.old contents
+    ensures { (contents : List ℕ) → IsMail slots.old contents → LeftBehind r slots.old contents
         slots.new }
 {
     let listed = relabel_to(r, Place::EndList, Place::SourceList, slots);

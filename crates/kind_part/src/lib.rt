@@ -2,7 +2,7 @@
 #![tactic(auto)]
 
 ghost use Rattle.std.specs.Prelude.{false, List, ◌≡◌, ℕ, ◌<◌};
-ghost use Rattle.transit.specs.Mail.{Mail};
+ghost use Rattle.transit.specs.Mail.{IsMail};
 ghost use Rattle.transit.specs.Message.{is_same_rank, ranks};
 ghost use Rattle.transit.specs.Unread.{Unread};
 ghost use Rattle.protocol.specs.Connect.{part};
@@ -48,7 +48,7 @@ pub fn part(a: Rank, b: Rank, slots: &mut Slots, roster: &mut Roster) -> Values
     requires whole { Whole roster.old }
     requires a_lt_ranks { (a.0 < ranks) × (b.0 < ranks) }
     requires apart { is_same_rank a b ≡ false }
-    ensures { (contents : List ℕ) → Mail slots.old contents → DeskDoes (part a b) slots.old contents
+    ensures { (contents : List ℕ) → IsMail slots.old contents → DeskDoes (part a b) slots.old contents
         roster.old result slots.new contents roster.new }
 {
     let to_first = relabel_between(b, a, Place::Channel, Place::EndList, slots);

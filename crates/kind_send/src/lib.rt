@@ -8,7 +8,7 @@ ghost use Rattle.transit.specs.Message.{ranks};
 ghost use Rattle.transit.specs.Unread.{limit, sent_at, most_sent};
 ghost use Rattle.protocol.specs.Messages.{place_over, send};
 ghost use Rattle.record.specs.declared.Record.{Record};
-ghost use Rattle.desk.specs.Desk.{desk_of, Desk, DeskDoes, Judges};
+ghost use Rattle.desk.specs.Desk.{desk_of, IsDesk, DeskDoes, Judges};
 ghost use Rattle.verdict.specs.Verdict.{verdict_of, passed, judged};
 ghost use Rattle.kind_send.specs.Tests.{send_tests};
 
@@ -48,7 +48,7 @@ pub fn send_verdict(
     contents: &Contents,
     roster: &Roster,
 ) -> Verdict
-    requires { Desk slots.now contents.now roster.now }
+    requires { IsDesk slots.now contents.now roster.now }
     ensures { (value : ℕ) → Judges (Record.Send a b value) (desk_of slots.now contents.now
         roster.now) result }
 {
@@ -81,7 +81,7 @@ pub fn send(
     contents: &mut Contents,
     roster: &Roster,
 ) -> Values
-    requires desk { Desk slots.old contents.old roster.now }
+    requires desk { IsDesk slots.old contents.old roster.now }
     requires a_lt_ranks { (a.0 < ranks) × (b.0 < ranks) }
     requires contents_len_bound { length (messages_in slots.old contents.old) < limit }
     requires contents_bound { sent_at a b (sent_in contents.old) < most_sent }

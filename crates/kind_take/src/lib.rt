@@ -3,7 +3,7 @@
 
 ghost use Rattle.std.specs.Prelude.{List, ◌≡◌, ℕ, ◌<◌};
 ghost use Rattle.base.specs.Lists.{tally};
-ghost use Rattle.transit.specs.Mail.{Mail, messages_in};
+ghost use Rattle.transit.specs.Mail.{IsMail, messages_in};
 ghost use Rattle.transit.specs.Message.{between, ranks};
 ghost use Rattle.protocol.specs.Messages.{take};
 ghost use Rattle.record.specs.declared.Record.{Record};
@@ -31,7 +31,7 @@ fn take_checked(b: Rank, a: Rank, receiver: Status, sender: Status, unread: Coun
 
 pub fn take_verdict(b: Rank, a: Rank, slots: &Slots, roster: &Roster) -> Verdict
     requires { Whole roster.now }
-    ensures { (contents : List ℕ) → Mail slots.now contents → Judges (Record.Take b a) (desk_of
+    ensures { (contents : List ℕ) → IsMail slots.now contents → Judges (Record.Take b a) (desk_of
         slots.now contents roster.now) result }
 {
     let receiver = standing_of(b, roster);
@@ -42,7 +42,7 @@ pub fn take_verdict(b: Rank, a: Rank, slots: &Slots, roster: &Roster) -> Verdict
 
 // The first message from `a` to `b` leaves.
 pub fn take(b: Rank, a: Rank, slots: &mut Slots, contents: &Contents) -> Values
-    requires mail { Mail slots.old contents.now }
+    requires mail { IsMail slots.old contents.now }
     requires a_lt_ranks { (a.0 < ranks) × (b.0 < ranks) }
     requires nonzero { 0 < tally (between a b) (messages_in slots.old contents.now) }
     ensures { (roster : List ℕ) → Whole roster → DeskDoes (take b a) slots.old contents.now roster result

@@ -1,6 +1,6 @@
 -- What the last lines of a run are of: the messages that the lent slots hold. Paper 01, "The printed run". Assumes nothing.
 use Rattle.std.specs.Prelude.{List, ◌≡◌, ℕ, ◌*◌, ◌+◌}
-use Rattle.transit.specs.Mail.{Mail, messages_in}
+use Rattle.transit.specs.Mail.{IsMail, messages_in}
 use Rattle.transit.specs.declared.Message.{Message}
 use Rattle.print_page.specs.Put.{Put}
 use Rattle.print_lines.specs.Lines.{record_room, pair_room, end_room}
@@ -11,7 +11,7 @@ pub record PutOf (most : ℕ) (page : List ℕ) (used : ℕ) (slots : List ℕ) 
     : Type 0 where
   pub text : List ℕ
   pub put : Put most page used text after end
-  pub same : (contents : List ℕ) → Mail slots contents → text ≡ said (messages_in slots contents)
+  pub same : (contents : List ℕ) → IsMail slots contents → text ≡ said (messages_in slots contents)
 
 -- the most bytes that the lines of a sender take
 abbrev pub sender_room : ℕ

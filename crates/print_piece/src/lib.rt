@@ -2,7 +2,7 @@
 #![tactic(auto)]
 
 ghost use Rattle.std.specs.Prelude.{◌+◌, ◌<◌, ◌^◌, length};
-ghost use Rattle.desk.specs.Desk.{desk_of, Desk};
+ghost use Rattle.desk.specs.Desk.{desk_of, IsDesk};
 ghost use Rattle.print_piece.specs.Ran.{RanSome, Stops};
 
 use print_lines::record_line;
@@ -44,9 +44,9 @@ pub fn run_piece(
     contents: &mut Contents,
     roster: &mut Roster,
 ) -> Stopped
-    requires desk { Desk slots.old contents.old roster.old }
+    requires desk { IsDesk slots.old contents.old roster.old }
     requires piece_bound { base + length piece.now < 2 ^ 64 }
-    ensures kept { Desk slots.new contents.new roster.new }
+    ensures kept { IsDesk slots.new contents.new roster.new }
     ensures ran { RanSome
         (desk_of slots.old contents.old roster.old) piece.now base (length page.old)
         (desk_of slots.new contents.new roster.new) result.at result.used result.steps page.new }

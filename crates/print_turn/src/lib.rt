@@ -3,7 +3,7 @@
 #![tactic(auto)]
 
 ghost use Rattle.std.specs.Prelude.{◌≡◌, ◌≤◌, length};
-ghost use Rattle.desk.specs.Desk.{desk_of, Desk};
+ghost use Rattle.desk.specs.Desk.{desk_of, IsDesk};
 ghost use Rattle.print_last.specs.Last.{ending_room};
 ghost use Rattle.print_turn.specs.Turn.{next_of, buffer_room, Turns};
 
@@ -70,9 +70,9 @@ pub fn turn(
     contents: &mut Contents,
     roster: &mut Roster,
 ) -> Turned
-    requires desk { Desk slots.old contents.old roster.old }
+    requires desk { IsDesk slots.old contents.old roster.old }
     requires held_in_bounds { (held ≤ length buffer.old) × (length buffer.old ≤ buffer_room) × (ending_room ≤ length page.old) }
-    ensures kept { Desk slots.new contents.new roster.new }
+    ensures kept { IsDesk slots.new contents.new roster.new }
     ensures turns { Turns (desk_of slots.old contents.old roster.old)
         buffer.old held base done (length page.old)
         (desk_of slots.new contents.new roster.new) buffer.new result page.new }

@@ -10,7 +10,7 @@ ghost use Rattle.broker.specs.declared.link.Backlog.TheVariants.{Clear};
 ghost use Rattle.broker.specs.declared.link.Connection.TheVariants.{Closed};
 ghost use Rattle.broker.specs.declared.process.Request.TheVariants.{Absent};
 ghost use Rattle.broker.specs.declared.process.Status.TheVariants.{Unstarted};
-ghost use Rattle.desk.specs.Desk.{desk_of, Desk};
+ghost use Rattle.desk.specs.Desk.{desk_of, IsDesk};
 ghost use Rattle.print_piece.specs.declared.Stop.TheVariants.{PageFull, KindUnknown, RecordCut};
 ghost use Rattle.print_run.specs.Printed.{lines_of};
 ghost use Rattle.print_run.specs.Run.{Answered};
@@ -93,7 +93,7 @@ pub fn fresh_in_place(slots: &mut Slots, contents: &mut Contents, roster: &mut R
     requires slots_len { length slots.old ≡ slots_length }
     requires contents_len { length contents.old ≡ contents_length }
     requires whole { Whole roster.old }
-    ensures desk { Desk slots.new contents.new roster.new }
+    ensures desk { IsDesk slots.new contents.new roster.new }
     ensures holds { desk_of slots.new contents.new roster.new ≡ fresh }
 {
     open_fresh(slots, contents, roster)
@@ -110,7 +110,7 @@ pub fn state_into_place(
     requires contents_len { length contents.old ≡ contents_length }
     requires whole { Whole roster.old }
     ensures tells { result ≡ sound (view broker) }
-    ensures desk { result ≡ true → Desk slots.new contents.new roster.new }
+    ensures desk { result ≡ true → IsDesk slots.new contents.new roster.new }
     ensures holds { result ≡ true → desk_of slots.new contents.new roster.new ≡ view broker }
 {
     load(broker, slots, contents, roster)
@@ -123,7 +123,7 @@ pub fn state_out_of_place(
     contents: &Contents,
     roster: &Roster,
 ) -> Broker
-    requires { Desk slots.now contents.now roster.now }
+    requires { IsDesk slots.now contents.now roster.now }
     ensures { view result ≡ desk_of slots.now contents.now roster.now }
 {
     unload(broker, slots, contents, roster)
@@ -137,8 +137,8 @@ pub fn step_on_arrays(
     contents: &mut Contents,
     roster: &mut Roster,
 ) -> Reply
-    requires { Desk slots.old contents.old roster.old }
-    ensures desk { Desk slots.new contents.new roster.new }
+    requires { IsDesk slots.old contents.old roster.old }
+    ensures desk { IsDesk slots.new contents.new roster.new }
     ensures exact { sound (desk_of slots.old contents.old roster.old) ≡ true →
         ExactStep (desk_of slots.old contents.old roster.old) log.now at result.answer result.next
         (desk_of slots.new contents.new roster.new) }
@@ -157,9 +157,9 @@ pub fn piece_of_a_run(
     contents: &mut Contents,
     roster: &mut Roster,
 ) -> Stopped
-    requires desk_2 { Desk slots.old contents.old roster.old }
+    requires desk_2 { IsDesk slots.old contents.old roster.old }
     requires piece_bound { base + length piece.now < 2 ^ 64 }
-    ensures desk { Desk slots.new contents.new roster.new }
+    ensures desk { IsDesk slots.new contents.new roster.new }
     ensures ran { (answers : List Answered) × (take result.used page.new ≡ lines_of answers) ×
         EachAnswer (λ a. number a ≡ 18 → ⊥) answers ×
         (sound (desk_of slots.old contents.old roster.old) ≡ true →
@@ -187,9 +187,9 @@ pub fn turn_of_a_run(
     contents: &mut Contents,
     roster: &mut Roster,
 ) -> Turned
-    requires desk_2 { Desk slots.old contents.old roster.old }
+    requires desk_2 { IsDesk slots.old contents.old roster.old }
     requires held_in_bounds { (held ≤ length buffer.old) × (length buffer.old ≤ 65536) × (33648 ≤ length page.old) }
-    ensures desk { Desk slots.new contents.new roster.new }
+    ensures desk { IsDesk slots.new contents.new roster.new }
     ensures turns { TurnOfARun (desk_of slots.old contents.old roster.old)
         (take held buffer.old) base done (desk_of slots.new contents.new roster.new)
         (take result.held buffer.new) result page.new }

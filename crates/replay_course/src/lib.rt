@@ -2,7 +2,7 @@
 #![tactic(auto)]
 
 ghost use Rattle.std.specs.Prelude.{◌≤◌, length};
-ghost use Rattle.desk.specs.Desk.{desk_of, Desk};
+ghost use Rattle.desk.specs.Desk.{desk_of, IsDesk};
 ghost use Rattle.print_last.specs.Last.{ending_room};
 ghost use Rattle.print_turn.specs.Turn.{buffer_room};
 ghost use Rattle.replay_course.specs.Advances.{Advances};
@@ -21,9 +21,9 @@ pub fn take_turn(
     contents: &mut Contents,
     roster: &mut Roster,
 ) -> Stage
-    requires desk { Desk slots.old contents.old roster.old }
+    requires desk { IsDesk slots.old contents.old roster.old }
     requires held_in_bounds { (before.held ≤ length buffer.old) × (length buffer.old ≤ buffer_room) × (ending_room ≤ length page.old) }
-    ensures kept { Desk slots.new contents.new roster.new }
+    ensures kept { IsDesk slots.new contents.new roster.new }
     ensures advances { Advances (desk_of slots.old contents.old roster.old)
         buffer.old before (length page.old)
         (desk_of slots.new contents.new roster.new) buffer.new result page.new }

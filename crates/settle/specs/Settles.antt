@@ -4,11 +4,11 @@ use Rattle.protocol.specs.Sound.{sound}
 use Rattle.protocol.specs.Step.{settle}
 use Rattle.answer.specs.declared.Answer.{Answer}
 use Rattle.record.specs.declared.Record.{Record}
-use Rattle.desk.specs.Desk.{desk_of, Desk}
+use Rattle.desk.specs.Desk.{desk_of, IsDesk}
 
 -- where the arrays held a sound state, the answer is the definition's and they hold the definition's next state
 pub record Settles (r : Record) (slots contents roster : List ℕ) (a : Answer) (slots' contents' roster' : List ℕ) : Type 0 where
-  pub kept : Desk slots' contents' roster'
+  pub kept : IsDesk slots' contents' roster'
   pub same :
       sound (desk_of slots contents roster) ≡ true →
       record { answer = a; state = desk_of slots' contents' roster' } ≡ settle r (desk_of slots contents roster)

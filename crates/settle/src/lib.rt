@@ -1,7 +1,7 @@
 // A record judged, and applied only where it passes. Paper 01, "The step log" and "Where each step is checked".
 #![tactic(auto)]
 
-ghost use Rattle.desk.specs.Desk.{Desk};
+ghost use Rattle.desk.specs.Desk.{IsDesk};
 ghost use Rattle.settle.specs.Settles.{Settles};
 
 use answer::Answer;
@@ -18,7 +18,7 @@ pub fn settle(
     contents: &mut Contents,
     roster: &mut Roster,
 ) -> Answer
-    requires { Desk slots.old contents.old roster.old }
+    requires { IsDesk slots.old contents.old roster.old }
     ensures { Settles read slots.old contents.old roster.old result
         slots.new contents.new roster.new }
 {

@@ -5,7 +5,7 @@ ghost use Rattle.std.proofs.Math.Option.{none};
 ghost use Rattle.std.specs.Prelude.{◌≡◌};
 ghost use Rattle.protocol.specs.Checks.{refusal};
 ghost use Rattle.protocol.specs.Step.{apply};
-ghost use Rattle.desk.specs.Desk.{desk_of, Desk, DeskDoes};
+ghost use Rattle.desk.specs.Desk.{desk_of, IsDesk, DeskDoes};
 
 use answer::Values;
 use record::Record;
@@ -18,7 +18,7 @@ pub fn apply(
     contents: &mut Contents,
     roster: &mut Roster,
 ) -> Values
-    requires desk { Desk slots.old contents.old roster.old }
+    requires desk { IsDesk slots.old contents.old roster.old }
     requires read_value { refusal (desk_of slots.old contents.old roster.old) read ≡ none }
     ensures { DeskDoes (apply read) slots.old contents.old roster.old result slots.new
         contents.new roster.new }

@@ -1,7 +1,7 @@
 // The verdict on a record, by its kind: the first check that applies. Paper 01, "Where each step is checked".
 #![tactic(auto)]
 
-ghost use Rattle.desk.specs.Desk.{desk_of, Desk, Judges};
+ghost use Rattle.desk.specs.Desk.{desk_of, IsDesk, Judges};
 
 use record::Record;
 use roster::Roster;
@@ -9,7 +9,7 @@ use transit::{Contents, Slots};
 use verdict::Verdict;
 
 pub fn judge(read: Record, slots: &Slots, contents: &Contents, roster: &Roster) -> Verdict
-    requires { Desk slots.now contents.now roster.now }
+    requires { IsDesk slots.now contents.now roster.now }
     ensures { Judges read (desk_of slots.now contents.now roster.now) result }
 {
     match read {

@@ -2,7 +2,7 @@
 #![tactic(auto)]
 
 ghost use Rattle.answer.specs.Answer.{NeverEighteen};
-ghost use Rattle.desk.specs.Desk.{Desk};
+ghost use Rattle.desk.specs.Desk.{IsDesk};
 ghost use Rattle.steps_in_place.specs.InPlace.{StepsInPlace};
 
 use answer::{Answer, Refusal};
@@ -27,7 +27,7 @@ pub fn step_in_place(
     contents: &mut Contents,
     roster: &mut Roster,
 ) -> Reply
-    requires { Desk slots.old contents.old roster.old }
+    requires { IsDesk slots.old contents.old roster.old }
     ensures steps_in_place { StepsInPlace log.now at slots.old contents.old roster.old result
         slots.new contents.new roster.new }
     ensures never_eighteen { NeverEighteen result.answer }

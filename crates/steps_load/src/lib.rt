@@ -4,7 +4,7 @@
 ghost use Rattle.std.specs.Prelude.{◌≡◌, length};
 ghost use Rattle.transit.specs.Columns.{slots_length, contents_length};
 ghost use Rattle.broker.specs.State.{view, fresh};
-ghost use Rattle.desk.specs.Desk.{desk_of, Desk};
+ghost use Rattle.desk.specs.Desk.{desk_of, IsDesk};
 ghost use Rattle.roster.specs.Roster.{Whole};
 ghost use Rattle.steps_load.specs.Held.{HoldsState, Loads};
 
@@ -42,7 +42,7 @@ pub fn load(broker: Broker, slots: &mut Slots, contents: &mut Contents, roster: 
 
 // The state that the arrays hold, in the room of `broker`.
 pub fn unload(broker: Broker, slots: &Slots, contents: &Contents, roster: &Roster) -> Broker
-    requires { Desk slots.now contents.now roster.now }
+    requires { IsDesk slots.now contents.now roster.now }
     ensures { view result ≡ desk_of slots.now contents.now roster.now }
 {
     let room = broker.transit;

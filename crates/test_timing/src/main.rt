@@ -7,7 +7,7 @@ ghost use Rattle.std.specs.Prelude.{◌≡◌, ◌≤◌, length};
 ghost use Rattle.answer.specs.Answer.{NeverEighteen};
 ghost use Rattle.broker.specs.State.{view};
 ghost use Rattle.protocol.specs.Step.{step};
-ghost use Rattle.desk.specs.Desk.{Desk};
+ghost use Rattle.desk.specs.Desk.{IsDesk};
 ghost use Rattle.steps.specs.Outcome.{outcome, RefusalKeeps};
 
 use answer::Answer;
@@ -57,8 +57,8 @@ fn fill(mut input: Stdin, buffer: &mut [u8]) -> usize
 
 // The log is run in place, up to where no record stands.
 fn lead(log: &[u8], slots: &mut Slots, contents: &mut Contents, roster: &mut Roster)
-    requires { Desk slots.old contents.old roster.old }
-    ensures { Desk slots.new contents.new roster.new }
+    requires { IsDesk slots.old contents.old roster.old }
+    ensures { IsDesk slots.new contents.new roster.new }
 {
     let mut at: usize = 0;
     while at < log.len() {
@@ -125,7 +125,7 @@ fn looks_in_place(
     contents: &mut Contents,
     roster: &mut Roster,
 ) -> u64
-    requires { Desk slots.old contents.old roster.old }
+    requires { IsDesk slots.old contents.old roster.old }
 {
     let look = b"\x0C\x00";
     let mut sum: u64 = 0;

@@ -5,6 +5,7 @@ pub mod Columns
 pub mod Slots
 pub mod Index
 pub mod Mail
+pub mod InPlace
 pub mod Sent
 pub mod Pick
 pub mod Search

@@ -22,7 +22,7 @@ abbrev pub unread_in : List ℕ → List ℕ → Unread
 unread_in slots contents = counted (sent_in contents) (messages_in slots contents)
 
 -- what holds of the lent arrays before and after each routine
-pub record Mail (slots contents : List ℕ) : Type 0 where
+pub record IsMail (slots contents : List ℕ) : Type 0 where
   pub slots_long : length slots ≡ slots_length
   pub contents_long : length contents ≡ contents_length
   pub index : Index (columns_of slots)
@@ -33,46 +33,46 @@ pub record Mail (slots contents : List ℕ) : Type 0 where
 
 -- the arrays hold just these messages, packed to the front, and these counts sent
 pub record Loaded (l : List Message) (counts slots contents : List ℕ) : Type 0 where
-  pub kept : Mail slots contents
+  pub kept : IsMail slots contents
   pub same : messages_in slots contents ≡ l
   pub packed : (columns_of slots).tail ≡ length l
   pub counted : sent_in contents ≡ counts
 
 -- the messages and the counts sent are as they were, and there is room at the tail
 pub record Roomy (slots contents slots' contents' : List ℕ) : Type 0 where
-  pub kept : Mail slots' contents'
+  pub kept : IsMail slots' contents'
   pub same : messages_in slots' contents' ≡ messages_in slots contents
   pub counts : sent_in contents' ≡ sent_in contents
   pub room : (columns_of slots').tail < SLOTS
 
 -- the message is behind all others; n of its pair are unread, and the counts sent are as they were
 pub record Put (m : Message) (slots contents : List ℕ) (n : ℕ) (slots' contents' : List ℕ) : Type 0 where
-  pub kept : Mail slots' contents'
+  pub kept : IsMail slots' contents'
   pub same : messages_in slots' contents' ≡ messages_in slots contents ++ (m ∷ [])
   pub pair : n ≡ tally (between m.sender m.receiver) (messages_in slots' contents')
   pub counts : sent_in contents' ≡ sent_in contents
 
 -- a message from a to b is behind all others with the next number of its pair, which has sent one more; n of the pair are unread
 pub record Appended (a b : Rank) (p : Place) (v : ℕ) (slots contents : List ℕ) (n : ℕ) (slots' contents' : List ℕ) : Type 0 where
-  pub kept : Mail slots' contents'
+  pub kept : IsMail slots' contents'
   pub same : messages_in slots' contents' ≡ messages_in slots contents ++ (next_message a b p v (sent_in contents) ∷ [])
   pub pair : n ≡ tally (between a b) (messages_in slots' contents')
   pub counts : sent_in contents' ≡ one_message_more a b (sent_in contents)
 
 -- the first message of the pair has left, and how many of the pair are left
 pub record Left (a b : Rank) (slots contents : List ℕ) (m : Message) (rest : ℕ) (slots' : List ℕ) : Type 0 where
-  pub kept : Mail slots' contents
+  pub kept : IsMail slots' contents
   pub same : messages_in slots' contents ≡ without (between a b) (messages_in slots contents)
   pub found : head (select (between a b) (messages_in slots contents)) ≡ First m
   pub pair : rest ≡ tally (between a b) (messages_in slots' contents)
 
 -- the selected messages, n of them, are at the place
 pub record Relabelled (s : Selection) (p : Place) (slots contents : List ℕ) (n : ℕ) (slots' : List ℕ) : Type 0 where
-  pub kept : Mail slots' contents
+  pub kept : IsMail slots' contents
   pub same : messages_in slots' contents ≡ each_to s p (messages_in slots contents)
   pub moved : n ≡ tally (picks s) (messages_in slots contents)
 
 -- the selected message that was sent first is at the place
 pub record FirstRelabelled (s : Selection) (p : Place) (slots contents : List ℕ) (slots' : List ℕ) : Type 0 where
-  pub kept : Mail slots' contents
+  pub kept : IsMail slots' contents
   pub same : messages_in slots' contents ≡ first_to s p (messages_in slots contents)

@@ -8,6 +8,7 @@ ghost use Rattle.transit.specs.Message.{message, place_number};
 ghost use Rattle.transit.specs.Unread.{unread_of, nothing};
 
 pub mod layout;
+pub mod mail;
 pub mod pick;
 
 // The number by which processes are named at the upper of the two levels of name.

@@ -3,7 +3,7 @@
 
 ghost use Rattle.std.specs.Prelude.{◌<◌, length};
 ghost use Rattle.transit.specs.Columns.{sent_in};
-ghost use Rattle.transit.specs.Mail.{Mail, messages_in, Appended, Roomy};
+ghost use Rattle.transit.specs.Mail.{IsMail, messages_in, Appended, Roomy};
 ghost use Rattle.transit.specs.Message.{ranks};
 ghost use Rattle.transit.specs.Unread.{limit, sent_at, most_sent};
 
@@ -15,7 +15,7 @@ use transit_sent::count_one;
 
 // Where the tail has come to the end, the messages go to the front.
 fn make_room(slots: &mut Slots, contents: &mut Contents)
-    requires { Mail slots.old contents.old }
+    requires { IsMail slots.old contents.old }
     ensures { Roomy slots.old contents.old slots.new contents.new }
 {
     let tail = slots[TAIL];
@@ -35,7 +35,7 @@ pub fn append(
     slots: &mut Slots,
     contents: &mut Contents,
 ) -> Count
-    requires mail { Mail slots.old contents.old }
+    requires mail { IsMail slots.old contents.old }
     requires contents_len_bound { length (messages_in slots.old contents.old) < limit }
     requires a_lt_ranks { a.0 < ranks }
     requires b_lt_ranks { b.0 < ranks }

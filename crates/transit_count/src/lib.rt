@@ -4,7 +4,7 @@
 ghost use Rattle.std.specs.Prelude.{List, ◌≡◌, ℕ, ◌<◌, length};
 ghost use Rattle.transit.specs.Columns.{columns_of, SLOTS};
 ghost use Rattle.base.specs.Lists.{tally};
-ghost use Rattle.transit.specs.Mail.{Mail, messages_in};
+ghost use Rattle.transit.specs.Mail.{IsMail, messages_in};
 ghost use Rattle.transit.specs.Message.{between, picks, ranks};
 ghost use Rattle.transit.specs.Pick.{hits};
 ghost use Rattle.transit.specs.declared.Selection.{Selection};
@@ -15,14 +15,14 @@ use transit::{Count, Place, Rank, Slots};
 
 // How many messages are unread.
 pub fn unread(slots: &Slots) -> usize
-    ensures { (contents : List ℕ) → Mail slots.now contents → result ≡ length (messages_in slots.now contents) }
+    ensures { (contents : List ℕ) → IsMail slots.now contents → result ≡ length (messages_in slots.now contents) }
 {
     wide(slots[UNREAD])
 }
 
 // How many messages from `a` to `b` are unread.
 pub fn unread_between(a: Rank, b: Rank, slots: &Slots) -> Count
-    ensures { (contents : List ℕ) → Mail slots.now contents
+    ensures { (contents : List ℕ) → IsMail slots.now contents
         → result ≡ tally (between a b) (messages_in slots.now contents) }
 {
     if a.0 < Rank::LIMIT {
@@ -52,7 +52,7 @@ fn count_hits(w: Pick, slots: &Slots) -> Count
 pub fn count_at(a: Rank, b: Rank, place: Place, slots: &Slots) -> Count
     requires a_lt_ranks { a.0 < ranks }
     requires b_lt_ranks { b.0 < ranks }
-    ensures { (contents : List ℕ) → Mail slots.now contents
+    ensures { (contents : List ℕ) → IsMail slots.now contents
         → result ≡ tally (picks (Selection.BetweenAt a b place)) (messages_in slots.now contents) }
 {
     let low = ROW * (a.0 as u16);
@@ -71,7 +71,7 @@ pub fn count_at(a: Rank, b: Rank, place: Place, slots: &Slots) -> Count
 // How many messages to `r` are unread at a place.
 pub fn count_to(r: Rank, place: Place, slots: &Slots) -> Count
     requires { r.0 < ranks }
-    ensures { (contents : List ℕ) → Mail slots.now contents
+    ensures { (contents : List ℕ) → IsMail slots.now contents
         → result ≡ tally (picks (Selection.ToAt r place)) (messages_in slots.now contents) }
 {
     let number = place.number();

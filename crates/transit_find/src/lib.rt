@@ -3,7 +3,7 @@
 
 ghost use Rattle.std.specs.Prelude.{◌≡◌, ◌<◌};
 ghost use Rattle.transit.specs.Columns.{columns_of};
-ghost use Rattle.transit.specs.Mail.{Mail, unread_in};
+ghost use Rattle.transit.specs.Mail.{IsMail, unread_in};
 ghost use Rattle.transit.specs.Message.{ranks};
 ghost use Rattle.transit.specs.Search.{Oldest};
 ghost use Rattle.transit.specs.Unread.{first_sent};
@@ -15,7 +15,7 @@ use transit_seek::seek;
 
 // The message from `a` to `b` at a place that was sent first.
 pub fn first_at(a: Rank, b: Rank, place: Place, slots: &Slots, contents: &Contents) -> Found
-    requires { Mail slots.now contents.now }
+    requires { IsMail slots.now contents.now }
     ensures { result ≡ first_sent (Selection.BetweenAt a b place) (unread_in slots.now contents.now) }
 {
     if Rank::LIMIT <= a.0 {
@@ -58,7 +58,7 @@ fn oldest(r: usize, slots: &Slots) -> u16
 
 // The message to `r` that was sent first.
 pub fn first_to(r: Rank, slots: &Slots, contents: &Contents) -> Found
-    requires { Mail slots.now contents.now }
+    requires { IsMail slots.now contents.now }
     ensures { result ≡ first_sent (Selection.To r) (unread_in slots.now contents.now) }
 {
     if Rank::LIMIT <= r.0 {

@@ -4,7 +4,7 @@
 ghost use Rattle.std.specs.Prelude.{true, List, [], ◌≡◌, ℕ, ◌≤◌, length};
 ghost use Rattle.base.specs.Lists.{every};
 ghost use Rattle.transit.specs.Columns.{sent_in, slots_length, contents_length};
-ghost use Rattle.transit.specs.Mail.{Mail, unread_in, Loaded};
+ghost use Rattle.transit.specs.Mail.{IsMail, unread_in, Loaded};
 ghost use Rattle.transit.specs.Slots.{ranked};
 ghost use Rattle.transit.specs.Unread.{unread_of, limit};
 
@@ -66,7 +66,7 @@ pub fn load(t: Transit, slots: &mut Slots, contents: &mut Contents)
 
 // The messages of the slots as a value, in the room of `t`.
 pub fn unload_into(t: Transit, slots: &Slots, contents: &Contents) -> Transit
-    requires { Mail slots.now contents.now }
+    requires { IsMail slots.now contents.now }
     ensures { unread_of result ≡ unread_in slots.now contents.now }
 {
     let mut value = t;
@@ -94,7 +94,7 @@ pub fn unload_into(t: Transit, slots: &Slots, contents: &Contents) -> Transit
 
 // The messages of the slots as a value.
 pub fn unload(slots: &Slots, contents: &Contents) -> Transit
-    requires { Mail slots.now contents.now }
+    requires { IsMail slots.now contents.now }
     ensures { unread_of result ≡ unread_in slots.now contents.now }
 {
     unload_into(Transit::fresh(), slots, contents)

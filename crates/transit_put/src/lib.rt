@@ -3,7 +3,7 @@
 
 ghost use Rattle.std.specs.Prelude.{◌≡◌, ◌<◌, ◌+◌, length};
 ghost use Rattle.transit.specs.Columns.{columns_of, SLOTS};
-ghost use Rattle.transit.specs.Mail.{Mail, messages_in, Put};
+ghost use Rattle.transit.specs.Mail.{IsMail, messages_in, Put};
 ghost use Rattle.transit.specs.Message.{ranks};
 ghost use Rattle.transit.specs.Unread.{limit};
 
@@ -12,7 +12,7 @@ use transit::{Contents, Count, Message, Slots};
 
 // The message stands at the tail, where there is room; how many of its pair are unread then.
 pub fn put(m: Message, slots: &mut Slots, contents: &mut Contents) -> Count
-    requires mail { Mail slots.old contents.old }
+    requires mail { IsMail slots.old contents.old }
     requires slots_bound { (columns_of slots.old).tail < SLOTS }
     requires contents_len_bound { length (messages_in slots.old contents.old) < limit }
     requires sender_lt_ranks { m.sender.0 < ranks }

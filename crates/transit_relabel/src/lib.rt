@@ -3,7 +3,7 @@
 
 ghost use Rattle.std.specs.Prelude.{List, ◌≡◌, ℕ, ◌<◌, length};
 ghost use Rattle.transit.specs.Columns.{SLOTS, slots_length};
-ghost use Rattle.transit.specs.Mail.{Mail, Relabelled, FirstRelabelled};
+ghost use Rattle.transit.specs.Mail.{IsMail, Relabelled, FirstRelabelled};
 ghost use Rattle.transit.specs.Message.{ranks};
 ghost use Rattle.transit.specs.Pick.{Passed};
 ghost use Rattle.transit.specs.declared.Selection.{Selection};
@@ -33,7 +33,7 @@ fn pass(w: Pick, to: u16, slots: &mut Slots) -> Count
 pub fn relabel_between(a: Rank, b: Rank, from: Place, to: Place, slots: &mut Slots) -> Count
     requires a_lt_ranks { a.0 < ranks }
     requires b_lt_ranks { b.0 < ranks }
-    ensures { (contents : List ℕ) → Mail slots.old contents
+    ensures { (contents : List ℕ) → IsMail slots.old contents
         → Relabelled (Selection.BetweenAt a b from) to slots.old contents result slots.new }
 {
     let low = ROW * (a.0 as u16);
@@ -54,7 +54,7 @@ pub fn relabel_between(a: Rank, b: Rank, from: Place, to: Place, slots: &mut Slo
 // The messages to `r` at one place go to another; how many.
 pub fn relabel_to(r: Rank, from: Place, to: Place, slots: &mut Slots) -> Count
     requires { r.0 < ranks }
-    ensures { (contents : List ℕ) → Mail slots.old contents
+    ensures { (contents : List ℕ) → IsMail slots.old contents
         → Relabelled (Selection.ToAt r from) to slots.old contents result slots.new }
 {
     let number = from.number();
@@ -75,7 +75,7 @@ pub fn relabel_to(r: Rank, from: Place, to: Place, slots: &mut Slots) -> Count
 pub fn relabel_first(a: Rank, b: Rank, from: Place, to: Place, slots: &mut Slots)
     requires a_lt_ranks { a.0 < ranks }
     requires b_lt_ranks { b.0 < ranks }
-    ensures { (contents : List ℕ) → Mail slots.old contents
+    ensures { (contents : List ℕ) → IsMail slots.old contents
         → FirstRelabelled (Selection.BetweenAt a b from) to slots.old contents slots.new }
 {
     let pair = pair_of(a, b);

@@ -3,7 +3,7 @@
 
 ghost use Rattle.std.specs.Prelude.{◌<◌};
 ghost use Rattle.base.specs.Lists.{tally};
-ghost use Rattle.transit.specs.Mail.{Mail, messages_in, Left};
+ghost use Rattle.transit.specs.Mail.{IsMail, messages_in, Left};
 ghost use Rattle.transit.specs.Message.{between, ranks};
 
 use transit::layout::{COUNT, DEAD, FIRST, NEXT, PLACES, SEQUENCES, UNREAD, message_of, pair_of};
@@ -18,7 +18,7 @@ pub struct Removed {
 
 // The first message from `a` to `b` leaves.
 pub fn remove(a: Rank, b: Rank, slots: &mut Slots, contents: &Contents) -> Removed
-    requires mail { Mail slots.old contents.now }
+    requires mail { IsMail slots.old contents.now }
     requires a_lt_ranks { a.0 < ranks }
     requires b_lt_ranks { b.0 < ranks }
     requires nonzero { 0 < tally (between a b) (messages_in slots.old contents.now) }

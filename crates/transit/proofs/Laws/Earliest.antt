@@ -4,7 +4,7 @@ use Rattle.std.specs.Prelude.{Bool, true, false, List, [], ◌≡◌, ℕ, ◌+�
 use Rattle.std.proofs.Common.{ap, arith, get_or-set_same, get_or-set_other}
 use Rattle.transit.specs.Columns.{columns_of, with_places, PLACES, SEQUENCES, SLOTS, DEAD}
 use Rattle.base.specs.Lists.{select, without, change_first}
-use Rattle.transit.specs.Mail.{messages_in, Mail}
+use Rattle.transit.specs.Mail.{messages_in, IsMail}
 use Rattle.transit.specs.Message.{place_number, relabelled, cells}
 use Rattle.transit.specs.Slots.{held, message_of, message_at, messages_of}
 use Rattle.transit.specs.Unread.{head}
@@ -25,7 +25,7 @@ pub record Earliest (s v : List ℕ) (q : Message → Bool) (at : ℕ) : Type 0 
   pub passes : at < SLOTS → q (slot_message s v at) ≡ true
   pub others : (k : ℕ) → k < at → k < SLOTS → get_or (columns_of s).pairs k 0 < cells → q (slot_message s v k) ≡ false
 
-module _ {s v : List ℕ} {q : Message → Bool} {at : ℕ} (d : Mail s v) (x : Earliest s v q at) where
+module _ {s v : List ℕ} {q : Message → Bool} {at : ℕ} (d : IsMail s v) (x : Earliest s v q at) where
   -- Where there is none, no message passes.
   pub earliest_nothing : SLOTS ≤ at → select q (messages_in s v) ≡ []
   unfolding messages_in

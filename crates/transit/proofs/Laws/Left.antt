@@ -4,7 +4,7 @@ use Rattle.std.specs.Prelude.{List, ◌≡◌, ℕ, ◌+◌, ◌-◌, ◌<◌, �
 use Rattle.std.proofs.Common.{ap, ◌∙◌, arith, eq-eqb, ne_eqb, length-set}
 use Rattle.transit.specs.Columns.{columns_of, PLACES, NEXT, FIRST, COUNT, UNREAD, SEQUENCES, SLOTS, DEAD}
 use Rattle.base.specs.Lists.{tally, without}
-use Rattle.transit.specs.Mail.{messages_in, Mail, Left}
+use Rattle.transit.specs.Mail.{messages_in, IsMail, Left}
 use Rattle.transit.specs.Message.{between, ranks, cells, pair_of}
 use Rattle.transit.specs.Slots.{message_of}
 use Rattle.transit.specs.declared.Rank.{Rank}
@@ -34,7 +34,7 @@ without_first s p =
     set (set (set (set s at DEAD) (FIRST + p) (get_or s (NEXT + at) 0)) (COUNT + p) (get_or s (COUNT + p) 0 - 1)) UNREAD
     (get_or s UNREAD 0 - 1)
 
-module _ {s v : List ℕ} (a b : Rank) (d : Mail s v) (small_a : a.0 < ranks) (small_b : b.0 < ranks)
+module _ {s v : List ℕ} (a b : Rank) (d : IsMail s v) (small_a : a.0 < ranks) (small_b : b.0 < ranks)
     (some : 0 < tally (between a b) (messages_in s v)) where
   -- The pair has a pair's number.
   small : pair_of a b < cells
@@ -91,7 +91,7 @@ module _ {s v : List ℕ} (a b : Rank) (d : Mail s v) (small_a : a.0 < ranks) (s
   same_left = rw columns_left (earliest_without d first_earliest first_inside)
 
   -- The arrays hold what they must.
-  kept_left : Mail (without_first s (pair_of a b)) v
+  kept_left : IsMail (without_first s (pair_of a b)) v
   kept_left =
       let c = columns_of s in
       let z = column_sizes s d.slots_long in

@@ -3,7 +3,7 @@
 use Rattle.std.specs.Prelude.{List, ◌≡◌, refl, ℕ, ◌+◌, ◌*◌, ◌/◌, ◌%◌, ◌<◌, ◌≤◌, get_or}
 use Rattle.std.proofs.Common.{arith, eq-eqb, ne_eqb}
 use Rattle.transit.specs.Columns.{Columns, columns_of, SLOTS}
-use Rattle.transit.specs.Mail.{Mail}
+use Rattle.transit.specs.Mail.{IsMail}
 use Rattle.transit.specs.Message.{picks, ranks}
 use Rattle.transit.specs.Search.{Oldest}
 use Rattle.transit.specs.declared.Rank.{Rank}
@@ -33,7 +33,7 @@ module _ (c : Columns) (r : ℕ) where
       within = o.within;
     }
 
-module _ {s v : List ℕ} (d : Mail s v) (r : Rank) (small : r.0 < ranks) {at : ℕ} (o : Oldest (columns_of s) r.0 ranks at) where
+module _ {s v : List ℕ} (d : IsMail s v) (r : Rank) (small : r.0 < ranks) {at : ℕ} (o : Oldest (columns_of s) r.0 ranks at) where
   -- The least, where it is a slot, is of a pair to the receiver.
   own : at < SLOTS → (a : ℕ) × (a < ranks) × (get_or (columns_of s).pairs at 0 ≡ ranks * a + r.0)
   own inside =

@@ -10,7 +10,7 @@ use Rattle.std.proofs.lemmas.List.{length-map}
 use Rattle.std.proofs.Math.Seq.{take_all}
 use Rattle.transit.specs.Columns.{Columns, columns_of, PLACES, SLOTS, slots_length}
 use Rattle.base.specs.Lists.{tally, change_each}
-use Rattle.transit.specs.Mail.{messages_in, Mail, Relabelled}
+use Rattle.transit.specs.Mail.{messages_in, IsMail, Relabelled}
 use Rattle.transit.specs.Message.{place_number, picks, relabelled, cells}
 use Rattle.transit.specs.Pick.{picked, hits, Passed}
 use Rattle.transit.specs.Slots.{held, message_of, message_at}
@@ -73,7 +73,7 @@ pass_next {w} {to} {s} {s'} {i} {n} inside g =
       counted = rw (add-one, g.counted, pair, place);
     }
 
-module _ {s v : List ℕ} (d : Mail s v) (sel : Selection) (w : Pick) (top : w.high ≤ cells)
+module _ {s v : List ℕ} (d : IsMail s v) (sel : Selection) (w : Pick) (top : w.high ≤ cells)
     (agree : (p n x k : ℕ) → p < cells → n < 4 → picks sel (message_of p n x k) ≡ picked w p n) where
   -- A live slot is picked if its message is selected.
   here : (k : ℕ) → k < SLOTS → get_or (columns_of s).pairs k 0 < cells

@@ -5,7 +5,7 @@ use Rattle.std.proofs.Common.{sym, ap, ◌∙◌, arith, eq-eqb, ne_eqb, length-
 use Rattle.std.proofs.Math.ListN.{length}
 use Rattle.transit.specs.Columns.{Columns, columns_of, PLACES, NEXT, FIRST, SLOTS}
 use Rattle.transit.specs.Index.{Next, Index}
-use Rattle.transit.specs.Mail.{messages_in, Mail, FirstRelabelled}
+use Rattle.transit.specs.Mail.{messages_in, IsMail, FirstRelabelled}
 use Rattle.transit.specs.Message.{place_number, picks, relabelled, ranks, cells, pair_of}
 use Rattle.transit.specs.Search.{Walked, Reached}
 use Rattle.transit.specs.Unread.{first_to}
@@ -59,7 +59,7 @@ module _ (s : List ℕ) (x : Index (columns_of s)) {p n : ℕ} (small : p < cell
 pub walk_over : {c : Columns} {p n at : ℕ} → Walked c p n at → SLOTS ≤ at → Reached c p n at
 walk_over w end = record { walked = w; there = λ h. absurd (omega arith) }
 
-module _ {s v : List ℕ} (d : Mail s v) (a b : Rank) (small_a : a.0 < ranks) (small_b : b.0 < ranks) (place : Place) {at : ℕ}
+module _ {s v : List ℕ} (d : IsMail s v) (a b : Rank) (small_a : a.0 < ranks) (small_b : b.0 < ranks) (place : Place) {at : ℕ}
     (r : Reached (columns_of s) (pair_of a b) (place_number place) at) where
   -- The slot reached is of the pair.
   live : at < SLOTS → get_or (columns_of s).pairs at 0 < cells

@@ -21,7 +21,7 @@ use Rattle.transit.specs.Columns.{
 }
 use Rattle.transit.specs.Index.{Sizes}
 use Rattle.base.specs.Lists.{tally}
-use Rattle.transit.specs.Mail.{messages_in, Mail, Put}
+use Rattle.transit.specs.Mail.{messages_in, IsMail, Put}
 use Rattle.transit.specs.Message.{between, place_number, ranks, cells, pair_of}
 use Rattle.transit.specs.Unread.{limit}
 use Rattle.transit.specs.declared.Message.{Message}
@@ -52,7 +52,7 @@ use Rattle.base.specs.Laws.Tests.{both}
 
 -- a message can be put at the tail: p is the number of its pair, n that of its place
 pub record Room (s v : List ℕ) (m : Message) (p n : ℕ) : Type 0 where
-  pub mail : Mail s v
+  pub mail : IsMail s v
   pub room : (columns_of s).tail < SLOTS
   pub few : length (messages_in s v) < limit
   pub from : m.sender.0 < ranks
@@ -168,7 +168,7 @@ module _ {s v : List ℕ} {m : Message} {p n : ℕ} (r : Room s v m p n) where
         (put_messages v g.next g.first m r.mail.index sized r.mail.contents_long r.room r.from r.to)
 
     -- The arrays hold what they must.
-    put_kept : Mail (ended s x p) (filled_in v (get_or s TAIL 0) m)
+    put_kept : IsMail (ended s x p) (filled_in v (get_or s TAIL 0) m)
     put_kept =
         let c = columns_of s in
         let d = r.mail in

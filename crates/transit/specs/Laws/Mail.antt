@@ -4,7 +4,7 @@ use Rattle.std.specs.Prelude.{Bool, true, false, not, List, [], ◌≡◌, ℕ, 
 use Rattle.std.proofs.Common.{sym, ◌∙◌, arith, ne_eqb, ltb-true}
 use Rattle.transit.specs.Columns.{columns_of, with_places, COUNT, UNREAD, SLOTS, slots_length}
 use Rattle.base.specs.Lists.{select, tally, every}
-use Rattle.transit.specs.Mail.{messages_in, Mail}
+use Rattle.transit.specs.Mail.{messages_in, IsMail}
 use Rattle.transit.specs.Message.{is_same_rank, to, between, ranks, cells, pair_of}
 use Rattle.transit.specs.Slots.{ranked}
 use Rattle.transit.specs.Unread.{limit}
@@ -22,22 +22,22 @@ unfolding messages_in
 ranked_in s v = held_ranked (columns_of s).places v (columns_of s).pairs
 
 -- The number stored is how many messages are unread.
-pub unread_in_lem : {s v : List ℕ} → Mail s v → get_or s UNREAD 0 ≡ length (messages_in s v)
+pub unread_in_lem : {s v : List ℕ} → IsMail s v → get_or s UNREAD 0 ≡ length (messages_in s v)
 unread_in_lem {s} {v} d = sym (unread_is s) ∙ d.stored
 
 -- The number stored for a pair is how many of its messages are unread.
-pub count_in : {s v : List ℕ} (a b : Rank) → Mail s v → a.0 < ranks → b.0 < ranks
+pub count_in : {s v : List ℕ} (a b : Rank) → IsMail s v → a.0 < ranks → b.0 < ranks
     → get_or s (COUNT + pair_of a b) 0 ≡ tally (between a b) (messages_in s v)
 unfolding messages_in
 count_in {s} {v} a b d small_a small_b =
     sym (count_at s (pair_of a b) (pair_small a b small_a small_b)) ∙ count_messages a b small_a small_b d.index v
 
 -- How many messages pass a test never passes 1,024.
-pub tally_limit : {s v : List ℕ} → Mail s v → (q : Message → Bool) → tally q (messages_in s v) ≤ limit
+pub tally_limit : {s v : List ℕ} → IsMail s v → (q : Message → Bool) → tally q (messages_in s v) ≤ limit
 tally_limit {s} {v} d q = omega (arith, tally_bounded q (messages_in s v), d.few)
 
 -- Paper 02, change 3: "The unread count of a pair never passes 1,024." The number stored for it.
-pub count_limit : {s v : List ℕ} (a b : Rank) → Mail s v → a.0 < ranks → b.0 < ranks → get_or s (COUNT + pair_of a b) 0 ≤ limit
+pub count_limit : {s v : List ℕ} (a b : Rank) → IsMail s v → a.0 < ranks → b.0 < ranks → get_or s (COUNT + pair_of a b) 0 ≤ limit
 count_limit a b d small_a small_b = omega (arith, count_in a b d small_a small_b, tally_limit d (between a b))
 
 -- What passes at no message between ranks passes at none.
@@ -66,9 +66,9 @@ between_past_receiver a b m past h =
     by_test (is_same_rank m.sender a) (λ e. rw (e, receiver_past b m past h)) (λ e. rw e)
 
 -- Where the places alone change, to places, and as many messages are unread, the arrays hold what they must.
-pub mail_places : {s v s' l : List ℕ} → Mail s v → length s' ≡ slots_length → columns_of s' ≡ with_places (columns_of s) l
+pub mail_places : {s v s' l : List ℕ} → IsMail s v → length s' ≡ slots_length → columns_of s' ≡ with_places (columns_of s) l
     → ((k : ℕ) → k < SLOTS → get_or (columns_of s).pairs k 0 < cells → get_or l k 0 < 4)
-    → length (messages_in s' v) ≡ length (messages_in s v) → Mail s' v
+    → length (messages_in s' v) ≡ length (messages_in s v) → IsMail s' v
 mail_places {l = l} d long changed placed same = record {
   slots_long = long;
   contents_long = d.contents_long;

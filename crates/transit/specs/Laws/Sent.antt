@@ -6,7 +6,7 @@ use Rattle.std.proofs.Math.ListN.{length-drop}
 use Rattle.std.proofs.Math.Seq.{drop-set-lt, drop-set-add, get_or-drop}
 use Rattle.std.proofs.lemmas.List.{take-set-le}
 use Rattle.transit.specs.Columns.{columns_of, sent_in, SENT, SEQUENCES, SLOTS, contents_length}
-use Rattle.transit.specs.Mail.{messages_in, Mail, Roomy, Put, Appended}
+use Rattle.transit.specs.Mail.{messages_in, IsMail, Roomy, Put, Appended}
 use Rattle.transit.specs.Message.{message, cells, pair_of}
 use Rattle.transit.specs.Sent.{Counted, Kept}
 use Rattle.transit.specs.Slots.{message_at}
@@ -92,7 +92,7 @@ messages_before s v v' long same =
     (λ k x _ h. rw (read k (omega arith), read (SEQUENCES + k) (omega arith)))
 
 -- And so the arrays hold what they must.
-pub mail_before : {s v : List ℕ} (v' : List ℕ) → Mail s v → length v' ≡ contents_length → take SENT v' ≡ take SENT v → Mail s v'
+pub mail_before : {s v : List ℕ} (v' : List ℕ) → IsMail s v → length v' ≡ contents_length → take SENT v' ≡ take SENT v → IsMail s v'
 mail_before {s} {v} v' d long same =
     let messages = messages_before s v v' (column_sizes s d.slots_long).pairs_long same in
     record {
@@ -111,7 +111,7 @@ module _ {a b : Rank} {s v s' v' v'' : List ℕ} {k : ℕ} (r : Roomy s v s' v')
   counted_same = messages_before s' v' v'' (column_sizes s' r.kept.slots_long).pairs_long c.before ∙ r.same
 
   -- and the arrays hold what they must.
-  pub counted_kept : Mail s' v''
+  pub counted_kept : IsMail s' v''
   counted_kept = mail_before v'' r.kept c.long c.before
 
   -- Put with the number counted, a message is behind all others with the next number of its pair.

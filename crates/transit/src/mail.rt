@@ -1,0 +1,12 @@
+// The unread messages in place, as a run works on them.
+ghost use Rattle.transit.specs.Mail.{IsMail};
+
+use crate::{Contents, Slots};
+
+// The two arrays, which hold the messages unread before and after each routine.
+#[derive(Drop)]
+pub struct Mail {
+    pub slots: Slots,
+    pub contents: Contents,
+    ghost kept: { IsMail slots contents },
+}
