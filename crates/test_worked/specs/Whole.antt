@@ -3,7 +3,7 @@
 use Rattle.std.specs.Prelude.{◌≡◌, refl, true, [], ◌∷◌}
 use Rattle.protocol.specs.Laws.Opened.{opened_sound}
 use Rattle.protocol.specs.Sound.{sound}
-use Rattle.broker.specs.State as IsDesk
+use Rattle.broker.specs.State as Desk
 use Rattle.broker.specs.State.{State}
 use Rattle.test_worked.specs.Words.{
   changed,

@@ -23,8 +23,9 @@ pub fn is_handed(content: &str) -> bool {
     HANDED.iter().any(|first| content.starts_with(first))
 }
 
-/// What a clause of a contract begins with.
-const CLAUSES: [&str; 2] = ["requires", "ensures"];
+/// What a clause of a contract begins with, and what is known of every value
+/// of a type.
+const CLAUSES: [&str; 3] = ["requires", "ensures", "ghost"];
 
 fn split(text: &str) -> (String, String) {
     let imports = import_lines(text);
@@ -71,12 +72,13 @@ impl Clause {
     }
 
     /// Whether a word stands in the braces of a clause. A clause may have a
-    /// name ahead of them.
+    /// name ahead of them, and that of a type a sign behind its name.
     fn takes(&mut self, word: &str) -> bool {
         match (self.depth, word) {
             (0, "{") => self.depth = usize::from(self.ahead),
             (0, _) => {
-                let goes_on = self.ahead && word.chars().all(|c| is_letter(c) || c == ' ');
+                let leads = |c: char| is_letter(c) || " :=".contains(c);
+                let goes_on = self.ahead && word.chars().all(leads);
                 self.ahead = goes_on || CLAUSES.contains(&word);
                 return false;
             }

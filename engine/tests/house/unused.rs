@@ -83,6 +83,8 @@ mod tests {
         assert_eq!(names("x.rt", text), [""; 0]);
         let text = "use std::io::Read;\nfn f() {\n    a.read(b)\n}";
         assert_eq!(names("x.rt", text), [""; 0]);
+        let text = "ghost use a.{b};\nstruct S {\n    x: u8,\n    ghost kept: { b x },\n}";
+        assert_eq!(names("x.rt", text), [""; 0]);
         let text = "use a::B;\nfn f() {\n    for i in 0..B {}\n}";
         assert_eq!(names("x.rt", text), [""; 0]);
     }
