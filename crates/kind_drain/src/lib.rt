@@ -15,12 +15,11 @@ use broker::process::Status;
 use roster::Roster;
 use roster_read::{link_between, standing_of};
 use roster_write::awaiting;
-use transit::{Contents, Found, Place, Rank, Slots, Value};
+use transit::{Contents, Message, Place, Rank, Slots, Value};
 use transit_find::first_at;
 use transit_relabel::relabel_first;
 use verdict::Verdict;
 use verdict::names::both;
-use verdict::unread::is_nothing;
 
 fn drain_checked(
     r: Rank,
@@ -28,11 +27,11 @@ fn drain_checked(
     mover: Status,
     peer: Status,
     awaited: Backlog,
-    found: Found,
+    found: Option<Message>,
 ) -> Verdict
     ensures { verdict_of result ≡ judged passed (drain_tests r p mover peer awaited found) }
 {
-    let nothing = both(is_nothing(found), awaited.is_unheeded());
+    let nothing = both(found.is_none(), awaited.is_unheeded());
     Verdict::on_two(r, p, mover, peer)
         .migrating(mover)
         .unless(awaited.is_clear(), Refusal::NoBacklog)
@@ -72,11 +71,11 @@ pub fn drain(
 {
     let found = first_at(p, r, Place::SourceChannel, slots, contents);
     match found {
-        Found::First(m) => {
+        Some(m) => {
             relabel_first(p, r, Place::SourceChannel, Place::SourceList, slots);
             Values(0, m.value, m.sequence as Value)
         }
-        Found::Nothing => {
+        None => {
             awaiting(r, p, Backlog::Clear, roster);
             Values(1, 0, 0)
         }

@@ -16,19 +16,24 @@ use roster::Roster;
 use roster_awaits::alone;
 use roster_read::{request_of, standing_of};
 use roster_write::set_standing;
-use transit::{Contents, Found, Rank, Slots};
+use transit::{Contents, Message, Rank, Slots};
 use transit_find::first_to;
 use verdict::Verdict;
-use verdict::unread::is_nothing;
 
-fn end_checked(r: Rank, standing: Status, request: Request, alone: bool, found: Found) -> Verdict
+fn end_checked(
+    r: Rank,
+    standing: Status,
+    request: Request,
+    alone: bool,
+    found: Option<Message>,
+) -> Verdict
     ensures { verdict_of result ≡ judged passed (end_tests r standing request alone found) }
 {
     Verdict::on_one(r, standing)
         .running(standing)
         .unless(!alone, Refusal::Connected)
         .unless(request.is_open(), Refusal::RequestOpen)
-        .unless(!is_nothing(found), Refusal::UnreadLeft)
+        .unless(found.is_some(), Refusal::UnreadLeft)
 }
 
 pub fn end_verdict(r: Rank, slots: &Slots, contents: &Contents, roster: &Roster) -> Verdict

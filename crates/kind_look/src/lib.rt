@@ -15,17 +15,16 @@ use answer::{Refusal, Values};
 use broker::process::Status;
 use roster::Roster;
 use roster_read::standing_of;
-use transit::{Contents, Found, Rank, Slots, Value};
+use transit::{Contents, Message, Rank, Slots, Value};
 use transit_find::first_to;
 use verdict::Verdict;
-use verdict::unread::is_nothing;
 
-fn look_checked(r: Rank, receiver: Status, found: Found) -> Verdict
+fn look_checked(r: Rank, receiver: Status, found: Option<Message>) -> Verdict
     ensures { verdict_of result ≡ judged passed (look_tests r receiver found) }
 {
     Verdict::on_one(r, receiver)
         .running(receiver)
-        .unless(is_nothing(found), Refusal::NothingUnread)
+        .unless(found.is_none(), Refusal::NothingUnread)
 }
 
 pub fn look_verdict(r: Rank, slots: &Slots, contents: &Contents, roster: &Roster) -> Verdict
@@ -38,12 +37,12 @@ pub fn look_verdict(r: Rank, slots: &Slots, contents: &Contents, roster: &Roster
 }
 
 // The sender of what was found.
-fn sender_in(found: Found) -> Rank
+fn sender_in(found: Option<Message>) -> Rank
     ensures { result ≡ sender_in found }
 {
     match found {
-        Found::First(m) => m.sender,
-        Found::Nothing => Rank(0),
+        Some(m) => m.sender,
+        None => Rank(0),
     }
 }
 

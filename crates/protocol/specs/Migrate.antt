@@ -1,12 +1,11 @@
 -- Move, heed, drain and land: what each does to the state and answers. Paper 01, "The step log", kinds 06 to 09; paper 02,
 -- change 4.
 -- Assumes nothing.
-use Rattle.std.specs.Prelude.{not, List, ℕ, ◌+◌}
+use Rattle.std.specs.Prelude.{Option, Some, None, not, List, ℕ, ◌+◌}
 use Rattle.base.specs.Lists.{tally}
 use Rattle.transit.specs.Message.{picks}
 use Rattle.transit.specs.Unread.{Unread, relabel_all, relabel_first, first_sent}
-use Rattle.transit.specs.declared.Found.{Found}
-use Rattle.transit.specs.declared.Found.TheVariants.{First, Nothing}
+use Rattle.transit.specs.declared.Message.{Message}
 use Rattle.transit.specs.declared.Place.TheVariants.{SourceList, SourceChannel, EndList, Channel}
 use Rattle.transit.specs.declared.Rank.{Rank}
 use Rattle.transit.specs.declared.Selection.{Selection}
@@ -87,10 +86,10 @@ on_source_channel p r = BetweenAt p r SourceChannel
 
 -- "if s has messages to r at place 1, the first goes to 0, v1 is 0, v2 its value. Else a marked await becomes none, v1 is 1." Paper 02,
 -- change 4: "A take gives it as v3, and a drain that moves a message does too."
-abbrev pub drain_found : Rank → Rank → State → Found → Done
-drain_found r p s (First m) =
+abbrev pub drain_found : Rank → Rank → State → Option Message → Done
+drain_found r p s (Some m) =
     done (with_unread (relabel_first (on_source_channel p r) SourceList s.unread) s) 0 m.value m.sequence
-drain_found r p s Nothing = done (with_links (await r p Clear s.links) s) 1 0 0
+drain_found r p s None = done (with_links (await r p Clear s.links) s) 1 0 0
 
 unfoldable pub drain : Rank → Rank → State → Done
 drain r p s = drain_found r p s (first_sent (on_source_channel p r) s.unread)

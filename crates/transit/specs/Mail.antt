@@ -1,13 +1,12 @@
 -- The unread messages in place: what the lent arrays hold, when they hold it, and what each routine makes of it.
 -- Paper 01, "Names and places"; paper 02, change 4. Assumes nothing.
-use Rattle.std.specs.Prelude.{List, [], ◌∷◌, ◌++◌, ◌≡◌, ℕ, ◌<◌, ◌≤◌, length, get_or}
+use Rattle.std.specs.Prelude.{Some, List, [], ◌∷◌, ◌++◌, ◌≡◌, ℕ, ◌<◌, ◌≤◌, length, get_or}
 use Rattle.transit.specs.Columns.{columns_of, sent_in, SLOTS, slots_length, contents_length}
 use Rattle.transit.specs.Index.{Index}
 use Rattle.base.specs.Lists.{select, tally, without}
 use Rattle.transit.specs.Message.{between, picks, cells}
 use Rattle.transit.specs.Slots.{messages_of}
 use Rattle.transit.specs.Unread.{Unread, counted, next_message, one_message_more, limit, head, each_to, first_to}
-use Rattle.transit.specs.declared.Found.TheVariants.{First}
 use Rattle.transit.specs.declared.Message.{Message}
 use Rattle.transit.specs.declared.Place.{Place}
 use Rattle.transit.specs.declared.Rank.{Rank}
@@ -63,7 +62,7 @@ pub record Appended (a b : Rank) (p : Place) (v : ℕ) (slots contents : List �
 pub record Left (a b : Rank) (slots contents : List ℕ) (m : Message) (rest : ℕ) (slots' : List ℕ) : Type 0 where
   pub kept : IsMail slots' contents
   pub same : messages_in slots' contents ≡ without (between a b) (messages_in slots contents)
-  pub found : head (select (between a b) (messages_in slots contents)) ≡ First m
+  pub found : head (select (between a b) (messages_in slots contents)) ≡ Some m
   pub pair : rest ≡ tally (between a b) (messages_in slots' contents)
 
 -- the selected messages, n of them, are at the place

@@ -1,10 +1,30 @@
 -- What a `Transit` holds, and what each routine makes of it. Paper 01, "Names and places"; paper 02, change 4.
 -- Assumes nothing.
-use Rattle.std.specs.Prelude.{Bool, true, false, cond, ◌&&◌, List, [], ◌∷◌, ◌++◌, map, ℕ, ◌+◌, ltb, length, take, get_or, set, replicate}
+use Rattle.std.specs.Prelude.{
+  Option,
+  Some,
+  None,
+  Bool,
+  true,
+  false,
+  cond,
+  ◌&&◌,
+  List,
+  [],
+  ◌∷◌,
+  ◌++◌,
+  map,
+  ℕ,
+  ◌+◌,
+  ltb,
+  length,
+  take,
+  get_or,
+  set,
+  replicate,
+}
 use Rattle.base.specs.Lists.{select, without, change_first, change_each}
 use Rattle.transit.specs.Message.{rank, message, picks, place_order, relabelled, at, pair_of, cells}
-use Rattle.transit.specs.declared.Found.{Found}
-use Rattle.transit.specs.declared.Found.TheVariants.{First, Nothing}
 use Rattle.transit.specs.declared.Message.{Message}
 use Rattle.transit.specs.declared.Place.{Place}
 use Rattle.transit.specs.declared.Rank.{Rank}
@@ -71,27 +91,27 @@ appended u a b p v =
     (record { full = true; unread = u })
 
 -- the head of a list of messages
-abbrev pub head : List Message → Found
-head [] = Nothing
-head (m ∷ ms) = First m
+abbrev pub head : List Message → Option Message
+head [] = None
+head (m ∷ ms) = Some m
 
 -- the value of what was found, and 0 of nothing
-abbrev pub value_in : Found → ℕ
-value_in Nothing = 0
-value_in (First m) = m.value
+abbrev pub value_in : Option Message → ℕ
+value_in None = 0
+value_in (Some m) = m.value
 
 -- the running number of what was found, and 0 of nothing
-abbrev pub sequence_in : Found → ℕ
-sequence_in Nothing = 0
-sequence_in (First m) = m.sequence
+abbrev pub sequence_in : Option Message → ℕ
+sequence_in None = 0
+sequence_in (Some m) = m.sequence
 
 -- the sender of what was found, and rank 0 of nothing
-abbrev pub sender_in : Found → Rank
-sender_in Nothing = rank 0
-sender_in (First m) = m.sender
+abbrev pub sender_in : Option Message → Rank
+sender_in None = rank 0
+sender_in (Some m) = m.sender
 
 -- the selected message that was sent first
-abbrev pub first_sent : Selection → Unread → Found
+abbrev pub first_sent : Selection → Unread → Option Message
 first_sent s u = head (select (picks s) u.messages)
 
 -- each selected message at the place
@@ -112,7 +132,7 @@ relabel_first s p u = record { messages = first_to s p u.messages; count = u.cou
 
 -- what a removal found, and what is unread afterwards
 pub record AfterRemove : Type 0 where
-  pub found : Found
+  pub found : Option Message
   pub unread : Unread
 
 -- the messages without the first of the selected ones at a message's place
@@ -120,9 +140,9 @@ abbrev pub take_out : Selection → Message → List Message → List Message
 take_out s m l = without (λ x. picks s x && at m.place x) l
 
 -- the message leaves that was sent first of the selected ones at its place
-abbrev pub leave : Selection → Unread → Found → AfterRemove
-leave s u Nothing = record { found = Nothing; unread = u }
-leave s u (First m) = record { found = First m; unread = counted u.sent (take_out s m u.messages) }
+abbrev pub leave : Selection → Unread → Option Message → AfterRemove
+leave s u None = record { found = None; unread = u }
+leave s u (Some m) = record { found = Some m; unread = counted u.sent (take_out s m u.messages) }
 
 -- "the first unread message .. in place order leaves"
 unfoldable pub removed : Selection → Unread → AfterRemove

@@ -12,7 +12,7 @@ pub mod mail;
 pub mod pick;
 
 // The number by which processes are named at the upper of the two levels of name.
-#[derive(Clone, Copy)]
+#[derive(Clone, Copy, PartialEq, Eq)]
 pub struct Rank(pub u8);
 
 // Paper 01: "Ranks are 0 to 15."
@@ -37,7 +37,7 @@ pub type Value = u32;
 pub type Sequence = u32;
 
 // Where an unread message is held: paper 01's places 0 to 3, in this order.
-#[derive(Clone, Copy)]
+#[derive(Clone, Copy, PartialEq, Eq)]
 pub enum Place {
     // 0, the mover's list: already read from the channel by the source process of a migration.
     SourceList,
@@ -51,7 +51,7 @@ pub enum Place {
 
 // An unread message. Its running number is paper 02's, change 4: "The number of a message within its ordered pair, from 1 in order of
 // sending, is now kept with the message".
-#[derive(Clone, Copy)]
+#[derive(Clone, Copy, PartialEq, Eq)]
 pub struct Message {
     pub sender: Rank,
     pub receiver: Rank,
@@ -61,7 +61,7 @@ pub struct Message {
 }
 
 // Which messages a routine is about.
-#[derive(Clone, Copy)]
+#[derive(Clone, Copy, PartialEq, Eq)]
 pub enum Selection {
     To(Rank),
     ToAt(Rank, Place),
@@ -69,16 +69,9 @@ pub enum Selection {
     BetweenAt(Rank, Rank, Place),
 }
 
-// What a search finds.
-#[derive(Clone, Copy)]
-pub enum Found {
-    First(Message),
-    Nothing,
-}
-
 // The messages as they are handed over and saved: in the first `count` slots, in order of sending. The other slots mean nothing. And how
 // many messages each ordered pair has sent, row after row.
-#[derive(Clone, Copy)]
+#[derive(Clone, Copy, PartialEq, Eq)]
 pub struct Transit {
     pub messages: [Message; Transit::LIMIT],
     pub count: usize,

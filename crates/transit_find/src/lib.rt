@@ -10,19 +10,25 @@ ghost use Rattle.transit.specs.Unread.{first_sent};
 ghost use Rattle.transit.specs.declared.Selection.{Selection};
 
 use transit::layout::{FIRST, NONE, PLACES, SEQUENCES, SLOTS, message_of, pair_of, wide};
-use transit::{Contents, Found, Place, RANKS, Rank, Slots};
+use transit::{Contents, Message, Place, RANKS, Rank, Slots};
 use transit_seek::seek;
 
 // The message from `a` to `b` at a place that was sent first.
-pub fn first_at(a: Rank, b: Rank, place: Place, slots: &Slots, contents: &Contents) -> Found
+pub fn first_at(
+    a: Rank,
+    b: Rank,
+    place: Place,
+    slots: &Slots,
+    contents: &Contents,
+) -> Option<Message>
     requires { IsMail slots.now contents.now }
     ensures { result ≡ first_sent (Selection.BetweenAt a b place) (unread_in slots.now contents.now) }
 {
     if Rank::LIMIT <= a.0 {
-        return Found::Nothing;
+        return None;
     }
     if Rank::LIMIT <= b.0 {
-        return Found::Nothing;
+        return None;
     }
     let pair = pair_of(a, b);
     let number = place.number();
@@ -34,9 +40,9 @@ pub fn first_at(a: Rank, b: Rank, place: Place, slots: &Slots, contents: &Conten
             contents[at],
             contents[SEQUENCES + at],
         );
-        return Found::First(m);
+        return Some(m);
     }
-    Found::Nothing
+    None
 }
 
 // The first slot of a message to `r`: the least of its sixteen pairs' first slots.
@@ -57,12 +63,12 @@ fn oldest(r: usize, slots: &Slots) -> u16
 }
 
 // The message to `r` that was sent first.
-pub fn first_to(r: Rank, slots: &Slots, contents: &Contents) -> Found
+pub fn first_to(r: Rank, slots: &Slots, contents: &Contents) -> Option<Message>
     requires { IsMail slots.now contents.now }
     ensures { result ≡ first_sent (Selection.To r) (unread_in slots.now contents.now) }
 {
     if Rank::LIMIT <= r.0 {
-        return Found::Nothing;
+        return None;
     }
     let at = wide(oldest(r.0 as usize, slots));
     if at < SLOTS {
@@ -72,7 +78,7 @@ pub fn first_to(r: Rank, slots: &Slots, contents: &Contents) -> Found
             contents[at],
             contents[SEQUENCES + at],
         );
-        return Found::First(m);
+        return Some(m);
     }
-    Found::Nothing
+    None
 }

@@ -11,7 +11,6 @@ use broker::process::Status;
 use transit::Rank;
 
 pub mod names;
-pub mod unread;
 
 #[derive(Clone, Copy)]
 pub enum Verdict {

@@ -1,11 +1,10 @@
 -- What a drain leaves and answers, by what it found. Assumes nothing.
-use Rattle.std.specs.Prelude.{◌≡◌, List, ℕ}
+use Rattle.std.specs.Prelude.{Some, None, ◌≡◌, List, ℕ}
 use Rattle.std.proofs.Math.Path.{ap}
 use Rattle.std.proofs.Common.{◌∙◌}
 use Rattle.transit.specs.Laws.Promise.{first_relabelled_unread}
 use Rattle.transit.specs.Mail.{FirstRelabelled, unread_in}
 use Rattle.transit.specs.Unread.{Unread, first_sent}
-use Rattle.transit.specs.declared.Found.TheVariants.{First, Nothing}
 use Rattle.transit.specs.declared.Message.{Message}
 use Rattle.transit.specs.declared.Place.TheVariants.{SourceList}
 use Rattle.transit.specs.declared.Rank.{Rank}
@@ -18,7 +17,7 @@ module _ (known : State) {slots contents slots' : List ℕ} where
   -- the first message on the channel is read into the mover's list
   pub drain_message :
       (r p : Rank) (m : Message) →
-      First m ≡ first_sent (on_source_channel p r) (unread_in slots contents) →
+      Some m ≡ first_sent (on_source_channel p r) (unread_in slots contents) →
       FirstRelabelled (on_source_channel p r) SourceList slots contents slots' →
       done (with_unread (unread_in slots' contents) known) 0 m.value m.sequence
       ≡ drain r p (with_unread (unread_in slots contents) known)
@@ -29,7 +28,7 @@ module _ (known : State) {slots contents slots' : List ℕ} where
 -- the end marker is read
 pub drain_marker :
     (known : State) (r p : Rank) (u : Unread) {cleared : State} →
-    Nothing ≡ first_sent (on_source_channel p r) u →
+    None ≡ first_sent (on_source_channel p r) u →
     cleared ≡ with_links (await r p Clear known.links) known →
     done (with_unread u cleared) 1 0 0 ≡ drain r p (with_unread u known)
 unfolding drain

@@ -1,6 +1,6 @@
 -- Every accepted record changes the core of a sound state by its function of the core, and a take answers the value and the running number
 -- of the first of its pair's letters. Assumes nothing.
-use Rattle.std.specs.Prelude.{◌≡◌, refl, false, eqb, ℕ, length}
+use Rattle.std.specs.Prelude.{Some, ◌≡◌, refl, false, eqb, ℕ, length}
 use Rattle.std.proofs.Math.Path.{ap}
 use Rattle.std.proofs.Common.{◌∙◌}
 use Rattle.std.proofs.Math.Bool.{true}
@@ -13,7 +13,6 @@ use Rattle.transit.specs.Laws.Removed.{removed_sent_first}
 use Rattle.base.specs.Lists.{select, without}
 use Rattle.transit.specs.Message.{message, letter, between}
 use Rattle.transit.specs.Unread.{counted}
-use Rattle.transit.specs.declared.Found.TheVariants.{First}
 use Rattle.transit.specs.declared.Message.{Message}
 use Rattle.transit.specs.declared.Place.TheVariants.{EndList}
 use Rattle.transit.specs.declared.Rank.{Rank}
@@ -68,7 +67,7 @@ module _ (s : State) (b a : Rank) (h : sound s ≡ true) (f : TakeFits s b a) wh
     first : Message
     rest : List Message
     found : select (between a b) (messages s) ≡ first ∷ rest
-    removes : after_take b a s ≡ record { found = First first; unread = counted s.unread.sent (without (between a b) (messages s)) }
+    removes : after_take b a s ≡ record { found = Some first; unread = counted s.unread.sent (without (between a b) (messages s)) }
 
   taken : Taken
   taken = at (select (between a b) (messages s)) refl f.unread

@@ -1,11 +1,10 @@
 -- The cases of a change: a value that a test chooses, a value that differs at one rank, and the states that a route and a drain
 -- choose between. Assumes nothing.
-use Rattle.std.specs.Prelude.{◌≡◌, false, cond}
+use Rattle.std.specs.Prelude.{Option, Some, None, ◌≡◌, false, cond}
 use Rattle.base.specs.Laws.Tests.{chosen}
 use Rattle.transit.specs.Message.{is_same_rank}
 use Rattle.transit.specs.Unread.{first_sent, relabel_first}
-use Rattle.transit.specs.declared.Found.{Found}
-use Rattle.transit.specs.declared.Found.TheVariants.{First, Nothing}
+use Rattle.transit.specs.declared.Message.{Message}
 use Rattle.transit.specs.declared.Place.TheVariants.{SourceList}
 use Rattle.transit.specs.declared.Rank.{Rank}
 use Rattle.protocol.specs.Connect.{route, route_to_ended, route_there, route_on}
@@ -37,6 +36,6 @@ pub drain_cases : (P : State → Type 0) (r p : Rank) (s : State)
 unfolding drain
 drain_cases P r p s some none = at (first_sent (on_source_channel p r) s.unread)
   where
-    at : (x : Found) → P (drain_found r p s x).state
-    at (First m) = some
-    at Nothing = none
+    at : (x : Option Message) → P (drain_found r p s x).state
+    at (Some m) = some
+    at None = none

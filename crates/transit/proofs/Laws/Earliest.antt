@@ -1,6 +1,6 @@
 -- The first live slot whose message passes a test: what is found there, what is left where it dies, and what becomes of the messages
 -- where it alone changes its place. Assumes nothing.
-use Rattle.std.specs.Prelude.{Bool, true, false, List, [], ◌≡◌, ℕ, ◌+◌, ◌<◌, ◌≤◌, length, get_or, set}
+use Rattle.std.specs.Prelude.{Some, Bool, true, false, List, [], ◌≡◌, ℕ, ◌+◌, ◌<◌, ◌≤◌, length, get_or, set}
 use Rattle.std.proofs.Common.{ap, arith, get_or-set_same, get_or-set_other}
 use Rattle.transit.specs.Columns.{columns_of, with_places, PLACES, SEQUENCES, SLOTS, DEAD}
 use Rattle.base.specs.Lists.{select, without, change_first}
@@ -8,7 +8,6 @@ use Rattle.transit.specs.Mail.{messages_in, IsMail}
 use Rattle.transit.specs.Message.{place_number, relabelled, cells}
 use Rattle.transit.specs.Slots.{held, message_of, message_at, messages_of}
 use Rattle.transit.specs.Unread.{head}
-use Rattle.transit.specs.declared.Found.TheVariants.{First}
 use Rattle.transit.specs.declared.Message.{Message}
 use Rattle.transit.specs.declared.Place.{Place}
 use Rattle.transit.specs.Laws.Columns.{column_sizes, pair_at, place_at}
@@ -48,7 +47,7 @@ module _ {s v : List ℕ} {q : Message → Bool} {at : ℕ} (d : IsMail s v) (x 
 
     -- It holds the message that passes and was sent first.
     pub earliest_found : head (select q (messages_in s v)) ≡
-        First (message_of (get_or s at 0) (get_or s (PLACES + at) 0) (get_or v at 0) (get_or v (SEQUENCES + at) 0))
+        Some (message_of (get_or s at 0) (get_or s (PLACES + at) 0) (get_or v at 0) (get_or v (SEQUENCES + at) 0))
     unfolding messages_in
     earliest_found =
         rw (pair_at s at inside, place_at s at inside) at

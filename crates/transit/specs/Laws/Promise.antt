@@ -1,6 +1,6 @@
 -- What each routine over the slots makes of the unread messages, as the definitions have it: the promise to the layers above.
 -- Assumes nothing.
-use Rattle.std.specs.Prelude.{◌≡◌, refl, true, List, [], ◌∷◌, ◌++◌, map, ℕ, ◌+◌, ◌<◌, length}
+use Rattle.std.specs.Prelude.{Some, ◌≡◌, refl, true, List, [], ◌∷◌, ◌++◌, map, ℕ, ◌+◌, ◌<◌, length}
 use Rattle.std.proofs.Common.{◌∙◌, arith, length-append}
 use Rattle.std.proofs.lemmas.List.{length-map}
 use Rattle.base.specs.Laws.Lists.{length_change_first}
@@ -11,7 +11,6 @@ use Rattle.transit.specs.Columns.{sent_in}
 use Rattle.transit.specs.Mail.{messages_in, unread_in, Appended, Left, Relabelled, FirstRelabelled}
 use Rattle.transit.specs.Message.{place_index, between}
 use Rattle.transit.specs.Unread.{limit, next_message, head, appended, removed, relabel_all, relabel_first}
-use Rattle.transit.specs.declared.Found.TheVariants.{First}
 use Rattle.transit.specs.declared.Message.{Message}
 use Rattle.transit.specs.declared.Place.{Place}
 use Rattle.transit.specs.declared.Rank.{Rank}
@@ -43,7 +42,7 @@ module _ {slots contents slots' : List ℕ} where
       → 0 < tally (between a b) (messages_in slots contents)
       → never_falls (map place_index (select (between a b) (messages_in slots contents))) ≡ true
       → removed (Between a b) (unread_in slots contents)
-      ≡ record { found = First m; unread = unread_in slots' contents }
+      ≡ record { found = Some m; unread = unread_in slots' contents }
   left_unread {a} {b} x some rises = rw (← x.found) (at (select (between a b) (messages_in slots contents)) refl some)
     where
       at : (l : List Message) → select (between a b) (messages_in slots contents) ≡ l → 0 < length l

@@ -1,11 +1,10 @@
 -- Every record keeps the state's shape: a part for each rank, for each rank and each rank, for each host, and for each pair.
 -- Assumes nothing.
-use Rattle.std.specs.Prelude.{◌≡◌, List, ℕ, length}
+use Rattle.std.specs.Prelude.{Option, Some, None, ◌≡◌, List, ℕ, length}
 use Rattle.std.proofs.Common.{length-set}
 use Rattle.transit.specs.Laws.Operations.{appends, full_stays, relabels, relabels_first, removes}
 use Rattle.transit.specs.Unread.{Unread, appended, limit, head, leave, removed}
-use Rattle.transit.specs.declared.Found.{Found}
-use Rattle.transit.specs.declared.Found.TheVariants.{First, Nothing}
+use Rattle.transit.specs.declared.Message.{Message}
 use Rattle.transit.specs.declared.Place.{Place}
 use Rattle.transit.specs.declared.Rank.{Rank}
 use Rattle.transit.specs.declared.Selection.{Selection}
@@ -95,9 +94,9 @@ sends_long u a b p v e =
 takes_long : (q : Selection) (u : Unread) → length u.sent ≡ cells → length (removed q u).unread.sent ≡ cells
 takes_long q u e = rw (removes q u) (left (head (place_order q u.messages)))
   where
-    left : (x : Found) → length (leave q u x).unread.sent ≡ cells
-    left Nothing = e
-    left (First m) = e
+    left : (x : Option Message) → length (leave q u x).unread.sent ≡ cells
+    left None = e
+    left (Some m) = e
 
 pub shape_connect : {s : State} (a b : Rank) (c : Connection) → Shape s → Shape (connect_both a b c s)
 shape_connect a b c f = shape_with_links _ (rw (length-set, length-set) f.links_long) f

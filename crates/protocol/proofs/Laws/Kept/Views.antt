@@ -1,6 +1,6 @@
 -- Every accepted record keeps the pairs sound, every message's place fit, and the messages counted, named and in order.
 -- Assumes nothing.
-use Rattle.std.specs.Prelude.{◌≡◌, cond, not, ◌&&◌, ℕ, eqb, length}
+use Rattle.std.specs.Prelude.{Option, Some, None, ◌≡◌, cond, not, ◌&&◌, ℕ, eqb, length}
 use Rattle.std.proofs.Math.Path.{refl}
 use Rattle.std.proofs.Common.{sym, ap, ◌∙◌, arith}
 use Rattle.std.proofs.Math.Bool.{Bool, true, false, and_comm, and-true, and-false}
@@ -24,8 +24,6 @@ use Rattle.base.specs.Lists.{every, change_each, select}
 use Rattle.protocol.specs.Checks.{refusal}
 use Rattle.transit.specs.Message.{relabelled, picks, at, between, same_place, is_same_rank, to, place_order, ranks}
 use Rattle.transit.specs.Unread.{Unread, relabel_first, first_sent, appended, head, leave}
-use Rattle.transit.specs.declared.Found.{Found}
-use Rattle.transit.specs.declared.Found.TheVariants.{First, Nothing}
 use Rattle.transit.specs.declared.Message.{Message}
 use Rattle.transit.specs.declared.Place.{Place}
 use Rattle.transit.specs.declared.Place.TheVariants.{SourceList, SourceChannel, EndList, Channel}
@@ -111,7 +109,7 @@ abbrev on_lane : Rank → Rank → Message → Bool
 on_lane p r m = between p r m && at SourceChannel m
 
 -- where no first is found, nothing passes
-nothing_found : (l : List Message) → head l ≡ Nothing → l ≡ []
+nothing_found : (l : List Message) → head l ≡ None → l ≡ []
 nothing_found [] e = refl
 nothing_found (m ∷ l) e = cc
 
@@ -208,9 +206,9 @@ module _ (s : State) (f : Facts s) where
   unfolding take
   views_take b a = rw (removes (Between a b) s.unread) (left (head (place_order (Between a b) (messages s))))
     where
-      left : (x : Found) → Views (with_unread (leave (Between a b) s.unread x).unread s)
-      left Nothing = views_with s.unread (messages_fit s f.mail) (facts_order s f)
-      left (First m) =
+      left : (x : Option Message) → Views (with_unread (leave (Between a b) s.unread x).unread s)
+      left None = views_with s.unread (messages_fit s f.mail) (facts_order s f)
+      left (Some m) =
           views_with _ (every_without (fits s) (λ x. between a b x && at m.place x) (messages s) (messages_fit s f.mail))
           (without_keeps s.unread (facts_order s f) a b m.place)
 
@@ -218,8 +216,8 @@ module _ (s : State) (f : Facts s) where
   unfolding drain
   views_drain r p k = left (first_sent (on_source_channel p r) s.unread) refl
     where
-      left : (x : Found) → first_sent (on_source_channel p r) s.unread ≡ x → Views (drain_found r p s x).state
-      left (First m) e =
+      left : (x : Option Message) → first_sent (on_source_channel p r) s.unread ≡ x → Views (drain_found r p s x).state
+      left (Some m) e =
           views_with (relabel_first (on_source_channel p r) SourceList s.unread)
           (rw (relabels_first (on_source_channel p r) s.unread SourceList)
           (every_change_first (fits s) (on_lane p r) (relabelled SourceList)
@@ -227,7 +225,7 @@ module _ (s : State) (f : Facts s) where
           drained_fits (side s m.receiver m.sender) (side s m.sender m.receiver) m.place (both_right (between p r m) _ h) g)
           (messages s) (messages_fit s f.mail)))
           (first_keeps s.unread (facts_order s f) p r)
-      left Nothing e =
+      left None e =
           let none = nothing_found (select (on_lane p r) (messages s)) e in
           let ready : is_unheeded (backlog s r p) ≡ false = rw none at k.ready in
           views_still f (Effects.clear_effect s f r p k ready) refl (λ x. refl) (λ x. refl) (none_passes (on_lane p r) (messages s) none)
