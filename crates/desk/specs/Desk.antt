@@ -1,17 +1,17 @@
 -- The state that the lent arrays of a run hold, what holds of the arrays, and what the functions of a kind promise.
 -- Paper 01, "Names and places" and "What the contracts carry". Assumes nothing.
-use Rattle.std.specs.Prelude.{true, List, ◌≡◌, ℕ}
+use Rattle.std.specs.Prelude.{true, List, ◌≡◌, ℕ, ⊤, Result}
 use Rattle.transit.specs.Mail.{IsMail, unread_in}
 use Rattle.transit.specs.Unread.{Unread}
 use Rattle.protocol.specs.Checks.{refusal}
 use Rattle.protocol.specs.Done.{Done}
 use Rattle.protocol.specs.Sound.{sound}
 use Rattle.broker.specs.State.{State, with_unread}
+use Rattle.answer.specs.declared.Refusal.{Refusal}
 use Rattle.answer.specs.declared.Values.{Values}
 use Rattle.record.specs.declared.Record.{Record}
 use Rattle.roster.specs.Roster.{ranks_of, Whole}
 use Rattle.verdict.specs.Verdict.{verdict_of}
-use Rattle.verdict.specs.declared.Verdict.{Verdict}
 use Rattle.desk.specs.declared.Desk.{Desk}
 
 -- the state that the arrays hold
@@ -28,7 +28,7 @@ pub record IsDesk (slots contents roster : List ℕ) : Type 0 where
   pub long : Whole roster
 
 -- the verdict is the refusal of the definition
-abbrev pub Judges : Record → State → Verdict → Type 0
+abbrev pub Judges : Record → State → Result ⊤ Refusal → Type 0
 Judges r s v = verdict_of v ≡ refusal s r
 
 -- the values and the state afterwards are those of the definition

@@ -18,7 +18,7 @@ use roster::Roster;
 use roster_read::{link_between, location_of, request_of, standing_of};
 use roster_write::set_request;
 use transit::{Rank, Value};
-use verdict::Verdict;
+use verdict::{Verdict, refuse_if, running, two_ranks};
 
 fn call_checked(
     a: Rank,
@@ -30,10 +30,10 @@ fn call_checked(
 ) -> Verdict
     ensures { verdict_of result ≡ judged passed (call_tests a b first second request line) }
 {
-    Verdict::on_two(a, b, first, second)
-        .running(first)
-        .unless(!line.is_closed(), Refusal::Connected)
-        .unless(request.is_open(), Refusal::RequestOpen)
+    two_ranks(a, b, first, second)?;
+    running(first)?;
+    refuse_if(!line.is_closed(), Refusal::Connected)?;
+    refuse_if(request.is_open(), Refusal::RequestOpen)
 }
 
 pub fn call_verdict(a: Rank, b: Rank, roster: &Roster) -> Verdict

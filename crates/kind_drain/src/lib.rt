@@ -18,8 +18,7 @@ use roster_write::awaiting;
 use transit::{Contents, Message, Place, Rank, Slots, Value};
 use transit_find::first_at;
 use transit_relabel::relabel_first;
-use verdict::Verdict;
-use verdict::names::both;
+use verdict::{Verdict, migrating, refuse_if, two_ranks};
 
 fn drain_checked(
     r: Rank,
@@ -31,11 +30,11 @@ fn drain_checked(
 ) -> Verdict
     ensures { verdict_of result ≡ judged passed (drain_tests r p mover peer awaited found) }
 {
-    let nothing = both(found.is_none(), awaited.is_unheeded());
-    Verdict::on_two(r, p, mover, peer)
-        .migrating(mover)
-        .unless(awaited.is_clear(), Refusal::NoBacklog)
-        .unless(nothing, Refusal::NothingToDrain)
+    let nothing = found.is_none() && awaited.is_unheeded();
+    two_ranks(r, p, mover, peer)?;
+    migrating(mover)?;
+    refuse_if(awaited.is_clear(), Refusal::NoBacklog)?;
+    refuse_if(nothing, Refusal::NothingToDrain)
 }
 
 pub fn drain_verdict(

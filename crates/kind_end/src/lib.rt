@@ -18,7 +18,7 @@ use roster_read::{request_of, standing_of};
 use roster_write::set_standing;
 use transit::{Contents, Message, Rank, Slots};
 use transit_find::first_to;
-use verdict::Verdict;
+use verdict::{Verdict, one_rank, refuse_if, running};
 
 fn end_checked(
     r: Rank,
@@ -29,11 +29,11 @@ fn end_checked(
 ) -> Verdict
     ensures { verdict_of result ≡ judged passed (end_tests r standing request alone found) }
 {
-    Verdict::on_one(r, standing)
-        .running(standing)
-        .unless(!alone, Refusal::Connected)
-        .unless(request.is_open(), Refusal::RequestOpen)
-        .unless(found.is_some(), Refusal::UnreadLeft)
+    one_rank(r, standing)?;
+    running(standing)?;
+    refuse_if(!alone, Refusal::Connected)?;
+    refuse_if(request.is_open(), Refusal::RequestOpen)?;
+    refuse_if(found.is_some(), Refusal::UnreadLeft)
 }
 
 pub fn end_verdict(r: Rank, slots: &Slots, contents: &Contents, roster: &Roster) -> Verdict

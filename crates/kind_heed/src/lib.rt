@@ -21,14 +21,14 @@ use roster_read::{link_between, standing_of};
 use roster_write::{awaiting, connect};
 use transit::{Place, Rank, Slots};
 use transit_relabel::relabel_between;
-use verdict::Verdict;
+use verdict::{Verdict, refuse_if, two_ranks};
 
 fn heed_checked(b: Rank, r: Rank, peer: Status, mover: Status, line: Connection) -> Verdict
     ensures { verdict_of result ≡ judged passed (heed_tests b r peer mover line) }
 {
-    Verdict::on_two(b, r, peer, mover)
-        .unless(peer.is_ended(), Refusal::HasEnded)
-        .unless(!line.is_closing(), Refusal::NoNotice)
+    two_ranks(b, r, peer, mover)?;
+    refuse_if(peer.is_ended(), Refusal::HasEnded)?;
+    refuse_if(!line.is_closing(), Refusal::NoNotice)
 }
 
 pub fn heed_verdict(b: Rank, r: Rank, roster: &Roster) -> Verdict

@@ -22,14 +22,14 @@ use roster_write::set_standing;
 use transit::{Place, Rank, Slots};
 use transit_count::count_to;
 use transit_relabel::relabel_to;
-use verdict::Verdict;
+use verdict::{Verdict, migrating, one_rank, refuse_if};
 
 fn land_checked(r: Rank, standing: Status, awaited: u32) -> Verdict
     ensures { verdict_of result ≡ judged passed (land_tests r standing awaited) }
 {
-    Verdict::on_one(r, standing)
-        .migrating(standing)
-        .unless(awaited != 0, Refusal::BacklogLeft)
+    one_rank(r, standing)?;
+    migrating(standing)?;
+    refuse_if(awaited != 0, Refusal::BacklogLeft)
 }
 
 pub fn land_verdict(r: Rank, roster: &Roster) -> Verdict

@@ -17,14 +17,14 @@ use roster::Roster;
 use roster_read::standing_of;
 use transit::{Contents, Message, Rank, Slots, Value};
 use transit_find::first_to;
-use verdict::Verdict;
+use verdict::{Verdict, one_rank, refuse_if, running};
 
 fn look_checked(r: Rank, receiver: Status, found: Option<Message>) -> Verdict
     ensures { verdict_of result ≡ judged passed (look_tests r receiver found) }
 {
-    Verdict::on_one(r, receiver)
-        .running(receiver)
-        .unless(found.is_none(), Refusal::NothingUnread)
+    one_rank(r, receiver)?;
+    running(receiver)?;
+    refuse_if(found.is_none(), Refusal::NothingUnread)
 }
 
 pub fn look_verdict(r: Rank, slots: &Slots, contents: &Contents, roster: &Roster) -> Verdict

@@ -23,19 +23,17 @@ use roster_awaits::awaits;
 use roster_read::{drawn_on, request_of, standing_of};
 use roster_write::{set_drawn, set_standing};
 use transit::{Rank, Slots, Value};
-use verdict::Verdict;
-use verdict::names::{is_host, is_rank};
+use verdict::{Verdict, refuse_if, running};
 
 fn move_checked(r: Rank, host: u8, standing: Status, request: Request, drawn: u16) -> Verdict
     ensures { verdict_of result ≡ judged passed (move_tests r host standing request drawn) }
 {
-    Verdict::passed()
-        .unless(!is_rank(r), Refusal::RankRange)
-        .unless(!is_host(host), Refusal::HostRange)
-        .unless(!standing.is_started(), Refusal::NotStarted)
-        .running(standing)
-        .unless(request.is_open(), Refusal::RequestOpen)
-        .unless(Broker::NUMBERS <= drawn, Refusal::NumbersSpent)
+    refuse_if(Broker::RANKS <= r.0, Refusal::RankRange)?;
+    refuse_if(Broker::HOSTS <= host, Refusal::HostRange)?;
+    refuse_if(!standing.is_started(), Refusal::NotStarted)?;
+    running(standing)?;
+    refuse_if(request.is_open(), Refusal::RequestOpen)?;
+    refuse_if(Broker::NUMBERS <= drawn, Refusal::NumbersSpent)
 }
 
 pub fn move_verdict(r: Rank, host: u8, roster: &Roster) -> Verdict

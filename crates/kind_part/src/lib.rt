@@ -21,15 +21,15 @@ use roster_read::{link_between, standing_of};
 use roster_write::connect_both;
 use transit::{Place, Rank, Slots};
 use transit_relabel::relabel_between;
-use verdict::Verdict;
+use verdict::{Verdict, refuse_if, running, two_ranks};
 
 fn part_checked(a: Rank, b: Rank, first: Status, second: Status, line: Connection) -> Verdict
     ensures { verdict_of result ≡ judged passed (part_tests a b first second line) }
 {
-    Verdict::on_two(a, b, first, second)
-        .running(first)
-        .unless(line.is_closed(), Refusal::NotConnected)
-        .unless(line.is_closing(), Refusal::PeerMigrating)
+    two_ranks(a, b, first, second)?;
+    running(first)?;
+    refuse_if(line.is_closed(), Refusal::NotConnected)?;
+    refuse_if(line.is_closing(), Refusal::PeerMigrating)
 }
 
 pub fn part_verdict(a: Rank, b: Rank, roster: &Roster) -> Verdict

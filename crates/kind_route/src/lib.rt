@@ -18,12 +18,13 @@ use roster::Roster;
 use roster_read::{request_of, standing_of};
 use roster_write::{connect_both, set_location, set_request};
 use transit::{Rank, Value};
-use verdict::Verdict;
+use verdict::{Verdict, refuse_if, two_ranks};
 
 fn route_checked(a: Rank, b: Rank, first: Status, second: Status, request: Request) -> Verdict
     ensures { verdict_of result ≡ judged passed (route_tests a b first second request) }
 {
-    Verdict::on_two(a, b, first, second).unless(!request.asks_for(b), Refusal::NoRequest)
+    two_ranks(a, b, first, second)?;
+    refuse_if(!request.asks_for(b), Refusal::NoRequest)
 }
 
 pub fn route_verdict(a: Rank, b: Rank, roster: &Roster) -> Verdict

@@ -21,7 +21,7 @@ use transit::{Contents, Place, Rank, Sequence, Slots, Transit, Value};
 use transit_append::append;
 use transit_count::unread;
 use transit_sent::sent_between;
-use verdict::Verdict;
+use verdict::{Verdict, refuse_if, running, two_ranks};
 
 fn send_checked(
     a: Rank,
@@ -34,11 +34,11 @@ fn send_checked(
 ) -> Verdict
     ensures { verdict_of result ≡ judged passed (send_tests a b sender receiver line unread sent) }
 {
-    Verdict::on_two(a, b, sender, receiver)
-        .running(sender)
-        .unless(line.is_closed(), Refusal::NotConnected)
-        .unless(Transit::LIMIT <= unread, Refusal::Full)
-        .unless(Transit::MOST_SENT <= sent, Refusal::SequenceSpent)
+    two_ranks(a, b, sender, receiver)?;
+    running(sender)?;
+    refuse_if(line.is_closed(), Refusal::NotConnected)?;
+    refuse_if(Transit::LIMIT <= unread, Refusal::Full)?;
+    refuse_if(Transit::MOST_SENT <= sent, Refusal::SequenceSpent)
 }
 
 pub fn send_verdict(

@@ -1,7 +1,7 @@
 // Start: its checks in the paper's order, and what it does where none applies. Paper 01, "The step log", kind 01.
 #![tactic(auto)]
 
-ghost use Rattle.std.specs.Prelude.{◌≡◌, leb, ◌<◌};
+ghost use Rattle.std.specs.Prelude.{◌≡◌, ◌<◌};
 ghost use Rattle.transit.specs.Unread.{Unread};
 ghost use Rattle.protocol.specs.Life.{start};
 ghost use Rattle.broker.specs.Names.{numbers};
@@ -19,23 +19,15 @@ use roster::Roster;
 use roster_read::{drawn_on, standing_of};
 use roster_write::{announce, set_drawn, set_standing};
 use transit::{Rank, Value};
-use verdict::Verdict;
-use verdict::names::{is_host, is_rank};
-
-fn numbers_spent(drawn: u16) -> bool
-    ensures { result ≡ leb numbers drawn }
-{
-    Broker::NUMBERS <= drawn
-}
+use verdict::{Verdict, refuse_if};
 
 fn start_checked(r: Rank, host: u8, standing: Status, drawn: u16) -> Verdict
     ensures { verdict_of result ≡ judged passed (start_tests r host standing drawn) }
 {
-    Verdict::passed()
-        .unless(!is_rank(r), Refusal::RankRange)
-        .unless(!is_host(host), Refusal::HostRange)
-        .unless(standing.is_started(), Refusal::AlreadyStarted)
-        .unless(numbers_spent(drawn), Refusal::NumbersSpent)
+    refuse_if(Broker::RANKS <= r.0, Refusal::RankRange)?;
+    refuse_if(Broker::HOSTS <= host, Refusal::HostRange)?;
+    refuse_if(standing.is_started(), Refusal::AlreadyStarted)?;
+    refuse_if(Broker::NUMBERS <= drawn, Refusal::NumbersSpent)
 }
 
 pub fn start_verdict(r: Rank, host: u8, roster: &Roster) -> Verdict

@@ -19,14 +19,14 @@ use roster_read::standing_of;
 use transit::{Contents, Count, Rank, Slots, Value};
 use transit_count::unread_between;
 use transit_remove::remove;
-use verdict::Verdict;
+use verdict::{Verdict, refuse_if, running, two_ranks};
 
 fn take_checked(b: Rank, a: Rank, receiver: Status, sender: Status, unread: Count) -> Verdict
     ensures { verdict_of result ≡ judged passed (take_tests b a receiver sender unread) }
 {
-    Verdict::on_two(b, a, receiver, sender)
-        .running(receiver)
-        .unless(unread == 0, Refusal::NothingUnread)
+    two_ranks(b, a, receiver, sender)?;
+    running(receiver)?;
+    refuse_if(unread == 0, Refusal::NothingUnread)
 }
 
 pub fn take_verdict(b: Rank, a: Rank, slots: &Slots, roster: &Roster) -> Verdict

@@ -10,7 +10,6 @@ use roster::Roster;
 use settle_apply::apply;
 use settle_judge::judge;
 use transit::{Contents, Slots};
-use verdict::Verdict;
 
 pub fn settle(
     read: Record,
@@ -22,12 +21,8 @@ pub fn settle(
     ensures { Settles read slots.old contents.old roster.old result
         slots.new contents.new roster.new }
 {
-    let verdict = judge(read, slots, contents, roster);
-    match verdict {
-        Verdict::Failed(n) => Answer::Refused(n),
-        Verdict::Passed => {
-            let values = apply(read, slots, contents, roster);
-            Answer::Accepted(values)
-        }
+    match judge(read, slots, contents, roster) {
+        Err(n) => Answer::Refused(n),
+        Ok(()) => Answer::Accepted(apply(read, slots, contents, roster)),
     }
 }

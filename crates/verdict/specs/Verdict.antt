@@ -1,14 +1,12 @@
 -- Checks in turn: a verdict that each check may settle, and the first that fails decides. Assumes nothing.
-use Rattle.std.specs.Prelude.{Bool, cond, List, [], ◌∷◌}
+use Rattle.std.specs.Prelude.{Bool, cond, List, [], ◌∷◌, ⊤, Result, Ok, Err}
 use Rattle.std.proofs.Math.Option.{Option, none, some}
 use Rattle.answer.specs.declared.Refusal.{Refusal}
-use Rattle.verdict.specs.declared.Verdict.{Verdict}
-use Rattle.verdict.specs.declared.Verdict.TheVariants.{Passed, Failed}
 
 -- the refusal of a verdict, if it is one
-abbrev pub verdict_of : Verdict → Option Refusal
-verdict_of Passed = none
-verdict_of (Failed n) = some n
+abbrev pub verdict_of : Result ⊤ Refusal → Option Refusal
+verdict_of (Ok x) = none
+verdict_of (Err n) = some n
 
 -- no check failed
 abbrev pub passed : Option Refusal

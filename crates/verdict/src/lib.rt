@@ -5,75 +5,52 @@ ghost use Rattle.std.specs.Prelude.{◌≡◌};
 ghost use Rattle.verdict.specs.Tests.{one_tests, two_tests, running_tests, migrating_tests};
 ghost use Rattle.verdict.specs.Verdict.{verdict_of, or_else, passed, judged};
 
-use crate::names::{both, is_rank, same_rank};
 use answer::Refusal;
 use broker::process::Status;
+use broker::state::Broker;
 use transit::Rank;
 
-pub mod names;
+// No check failed, or the refusal of the first that did.
+pub type Verdict = Result<(), Refusal>;
 
-#[derive(Clone, Copy)]
-pub enum Verdict {
-    Passed,
-    Failed(Refusal),
+// One check.
+pub fn refuse_if(fails: bool, refusal: Refusal) -> Verdict
+    ensures { verdict_of result ≡ or_else passed fails refusal }
+{
+    if fails { Err(refusal) } else { Ok(()) }
 }
 
-impl Verdict {
-    pub fn passed() -> Self
-        ensures { verdict_of result ≡ passed }
-    {
-        Verdict::Passed
-    }
+// The rank named is in range and started.
+pub fn one_rank(r: Rank, standing: Status) -> Verdict
+    ensures { verdict_of result ≡ judged passed (one_tests r standing) }
+{
+    refuse_if(Broker::RANKS <= r.0, Refusal::RankRange)?;
+    refuse_if(!standing.is_started(), Refusal::NotStarted)
+}
 
-    // The verdict so far, or, where all passed, this check's.
-    pub fn unless(self, fails: bool, refusal: Refusal) -> Verdict
-        ensures { verdict_of result ≡ or_else (verdict_of self) fails refusal }
-    {
-        match self {
-            Verdict::Failed(earlier) => Verdict::Failed(earlier),
-            Verdict::Passed => {
-                if fails {
-                    Verdict::Failed(refusal)
-                } else {
-                    Verdict::Passed
-                }
-            }
-        }
-    }
+// The two ranks named are in range, not one and the same, and started.
+pub fn two_ranks(a: Rank, b: Rank, first: Status, second: Status) -> Verdict
+    ensures { verdict_of result ≡ judged passed (two_tests a b first second) }
+{
+    let in_range = a.0 < Broker::RANKS && b.0 < Broker::RANKS;
+    let started = first.is_started() && second.is_started();
+    refuse_if(!in_range, Refusal::RankRange)?;
+    refuse_if(a == b, Refusal::SameRank)?;
+    refuse_if(!started, Refusal::NotStarted)
+}
 
-    // The rank named is in range and started.
-    pub fn on_one(r: Rank, standing: Status) -> Verdict
-        ensures { verdict_of result ≡ judged passed (one_tests r standing) }
-    {
-        Verdict::passed()
-            .unless(!is_rank(r), Refusal::RankRange)
-            .unless(!standing.is_started(), Refusal::NotStarted)
-    }
+// The first rank, which is started, runs.
+pub fn running(standing: Status) -> Verdict
+    ensures { verdict_of result ≡ judged passed (running_tests standing) }
+{
+    refuse_if(standing.is_ended(), Refusal::HasEnded)?;
+    refuse_if(standing.is_migrating(), Refusal::IsMigrating)
+}
 
-    // The two ranks named are in range, not one and the same, and started.
-    pub fn on_two(a: Rank, b: Rank, first: Status, second: Status) -> Verdict
-        ensures { verdict_of result ≡ judged passed (two_tests a b first second) }
-    {
-        let in_range = both(is_rank(a), is_rank(b));
-        let started = both(first.is_started(), second.is_started());
-        Verdict::passed()
-            .unless(!in_range, Refusal::RankRange)
-            .unless(same_rank(a, b), Refusal::SameRank)
-            .unless(!started, Refusal::NotStarted)
-    }
-
-    // And the first rank, which is started, runs.
-    pub fn running(self, standing: Status) -> Verdict
-        ensures { verdict_of result ≡ judged (verdict_of self) (running_tests standing) }
-    {
-        self.unless(standing.is_ended(), Refusal::HasEnded)
-            .unless(standing.is_migrating(), Refusal::IsMigrating)
-    }
-    // And the first rank, which is started, migrates.
-    pub fn migrating(self, standing: Status) -> Verdict
-        ensures { verdict_of result ≡ judged (verdict_of self) (migrating_tests standing) }
-    {
-        self.unless(standing.is_ended(), Refusal::HasEnded)
-            .unless(!standing.is_migrating(), Refusal::NotMigrating)
-    }
+// The first rank, which is started, migrates.
+pub fn migrating(standing: Status) -> Verdict
+    ensures { verdict_of result ≡ judged passed (migrating_tests standing) }
+{
+    refuse_if(standing.is_ended(), Refusal::HasEnded)?;
+    refuse_if(!standing.is_migrating(), Refusal::NotMigrating)
 }

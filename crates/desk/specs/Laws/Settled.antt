@@ -1,6 +1,6 @@
 -- What a record comes to, by a verdict that gives the refusal of the definition. Assumes nothing.
 use Rattle.std.proofs.Math.Option.{none, some}
-use Rattle.std.specs.Prelude.{◌≡◌}
+use Rattle.std.specs.Prelude.{◌≡◌, ⊤, Result, Ok, Err}
 use Rattle.std.proofs.Math.Path.{sym, ap}
 use Rattle.std.proofs.Common.{◌∙◌}
 use Rattle.protocol.specs.Checks.{refusal}
@@ -13,18 +13,16 @@ use Rattle.answer.specs.declared.Values.{Values}
 use Rattle.record.specs.declared.Record.{Record}
 use Rattle.desk.specs.Desk.{Judges, Does}
 use Rattle.verdict.specs.Verdict.{verdict_of}
-use Rattle.verdict.specs.declared.Verdict.{Verdict}
-use Rattle.verdict.specs.declared.Verdict.TheVariants.{Passed, Failed}
 
-module _ (r : Record) (s : State) (v : Verdict) (judged : Judges r s v) where
+module _ (r : Record) (s : State) (v : Result ⊤ Refusal) (judged : Judges r s v) where
   -- a verdict that refuses: the state is as it was
-  pub settle_refused : (n : Refusal) → v ≡ Failed n → ◌≡◌ {A = Settlement} (record { answer = Refused n; state = s }) (settle r s)
+  pub settle_refused : (n : Refusal) → v ≡ Err n → ◌≡◌ {A = Settlement} (record { answer = Refused n; state = s }) (settle r s)
   unfolding settle
   settle_refused n e = let h : refusal s r ≡ some n = sym judged ∙ ap verdict_of e in rw h
 
   -- a verdict that passes: what the record does
   pub settle_accepted :
-      (w : Values) (s' : State) → v ≡ Passed → Does (apply r) s w s' →
+      {x : ⊤} (w : Values) (s' : State) → v ≡ Ok x → Does (apply r) s w s' →
       ◌≡◌ {A = Settlement} (record { answer = Accepted w; state = s' }) (settle r s)
   unfolding settle
   settle_accepted w s' e does =
@@ -32,5 +30,5 @@ module _ (r : Record) (s : State) (v : Verdict) (judged : Judges r s v) where
       rw h (ap (λ (d : Done). record { answer = Accepted d.values; state = d.state }) does)
 
 -- no check applies where the verdict passes
-pub nothing_applies : (r : Record) (s : State) (v : Verdict) → Judges r s v → v ≡ Passed → refusal s r ≡ none
+pub nothing_applies : (r : Record) (s : State) (v : Result ⊤ Refusal) {x : ⊤} → Judges r s v → v ≡ Ok x → refusal s r ≡ none
 nothing_applies r s v judged e = sym judged ∙ ap verdict_of e
