@@ -1,6 +1,6 @@
 -- Vmids, standings, requests, connections and backlogs: the tests on them that paper 01 words. Paper 01, "Names and places".
 -- Assumes nothing.
-use Rattle.std.specs.Prelude.{Bool, true, false, ◌&&◌, ◌||◌, List, [], ◌∷◌, ℕ, eqb}
+use Rattle.std.specs.Prelude.{Bool, true, false, ◌&&◌, ◌||◌, List, [], ◌∷◌, ℕ, eqb, Option, None, Some}
 use Rattle.transit.specs.Message.{is_same_rank}
 use Rattle.transit.specs.declared.Rank.{Rank}
 use Rattle.broker.specs.declared.link.Backlog.{Backlog}
@@ -8,7 +8,6 @@ use Rattle.broker.specs.declared.link.Backlog.TheVariants.{Clear, Unheeded, Mark
 use Rattle.broker.specs.declared.link.Connection.{Connection}
 use Rattle.broker.specs.declared.link.Connection.TheVariants.{Closed, Open, Closing}
 use Rattle.broker.specs.declared.process.Request.{Request}
-use Rattle.broker.specs.declared.process.Request.TheVariants.{Absent, Posted}
 use Rattle.broker.specs.declared.process.Status.{Status}
 use Rattle.broker.specs.declared.process.Status.TheVariants.{Unstarted, Running, Migrating, Ended}
 use Rattle.broker.specs.declared.process.Vmid.{Vmid}
@@ -81,17 +80,20 @@ vmids_of (Migrating source target) = source ∷ target ∷ []
 vmids_of (Ended v) = v ∷ []
 
 -- "A rank has at most one open call, with the rank called and the vmid it was posted to."
-abbrev pub is_open_request : Request → Bool
-is_open_request Absent = false
-is_open_request (Posted b v) = true
+abbrev pub posted : Rank → Vmid → Option Request
+posted b v = Some (record { to = b; vmid = v })
 
-abbrev pub asks_for : Rank → Request → Bool
-asks_for b Absent = false
-asks_for b (Posted c v) = is_same_rank c b
+abbrev pub is_open_request : Option Request → Bool
+is_open_request None = false
+is_open_request (Some q) = true
 
-abbrev pub posted_to : Request → Vmid
-posted_to Absent = unknown
-posted_to (Posted b v) = v
+abbrev pub asks_for : Rank → Option Request → Bool
+asks_for b None = false
+asks_for b (Some q) = is_same_rank q.to b
+
+abbrev pub posted_to : Option Request → Vmid
+posted_to None = unknown
+posted_to (Some q) = q.vmid
 
 -- "a line: none, plain, or notice"
 abbrev pub is_closed : Connection → Bool

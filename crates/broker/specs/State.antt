@@ -1,6 +1,6 @@
 -- The abstract state, its parts and their changes, and the fresh state. Paper 01, "Names and places".
 -- Assumes nothing.
-use Rattle.std.specs.Prelude.{not, List, ℕ, ◌+◌, ◌*◌, get_or, set, replicate}
+use Rattle.std.specs.Prelude.{not, List, ℕ, ◌+◌, ◌*◌, get_or, set, replicate, Option, None}
 use Rattle.transit.specs.Message.{ranks, cells}
 use Rattle.transit.specs.Unread.{Unread, nothing, unread_of}
 use Rattle.transit.specs.declared.Message.{Message}
@@ -14,7 +14,6 @@ use Rattle.broker.specs.declared.link.Connection.TheVariants.{Closed}
 use Rattle.broker.specs.declared.link.Link.{Link}
 use Rattle.broker.specs.declared.process.Process.{Process}
 use Rattle.broker.specs.declared.process.Request.{Request}
-use Rattle.broker.specs.declared.process.Request.TheVariants.{Absent}
 use Rattle.broker.specs.declared.process.Status.{Status}
 use Rattle.broker.specs.declared.process.Status.TheVariants.{Unstarted}
 use Rattle.broker.specs.declared.process.Vmid.{Vmid}
@@ -41,7 +40,7 @@ view broker =
     }
 
 abbrev pub idle : Process
-idle = record { status = Unstarted; request = Absent }
+idle = record { status = Unstarted; request = None }
 
 abbrev pub apart : Link
 apart = record { connection = Closed; backlog = Clear }
@@ -75,7 +74,7 @@ abbrev pub status : State → Rank → Status
 status s r = (process s r).status
 
 -- a rank's call
-abbrev pub request : State → Rank → Request
+abbrev pub request : State → Rank → Option Request
 request s r = (process s r).request
 
 -- a's table entry for b
@@ -111,7 +110,7 @@ with_process r p s =
 abbrev pub with_status : Rank → Status → State → State
 with_status r t s = with_process r (record { status = t; request = request s r }) s
 
-abbrev pub with_request : Rank → Request → State → State
+abbrev pub with_request : Rank → Option Request → State → State
 with_request r q s = with_process r (record { status = status s r; request = q }) s
 
 abbrev pub with_locations : List Vmid → State → State

@@ -3,7 +3,7 @@ ghost use Rattle.std.specs.Prelude.{◌≡◌};
 ghost use Rattle.broker.specs.Names.{is_closed, is_open, is_closing, is_clear, is_unheeded};
 
 // A line: none; plain; or a notice, a connection whose peer has announced its migration.
-#[derive(Clone, Copy)]
+#[derive(Clone, Copy, PartialEq, Eq)]
 pub enum Connection {
     Closed,
     Open,
@@ -12,14 +12,14 @@ pub enum Connection {
 
 // An await, what the old channel still holds for the source process of a migration:
 // none; unheeded, the peer has not closed its side yet; or marked, the end marker is on the channel.
-#[derive(Clone, Copy)]
+#[derive(Clone, Copy, PartialEq, Eq)]
 pub enum Backlog {
     Clear,
     Unheeded,
     Marked,
 }
 
-#[derive(Clone, Copy)]
+#[derive(Clone, Copy, PartialEq, Eq)]
 pub struct Link {
     pub connection: Connection,
     pub backlog: Backlog,
@@ -29,31 +29,19 @@ impl Connection {
     pub fn is_closed(self) -> bool
         ensures { result ≡ is_closed self }
     {
-        match self {
-            Connection::Closed => true,
-            Connection::Open => false,
-            Connection::Closing => false,
-        }
+        self == Connection::Closed
     }
 
     pub fn is_open(self) -> bool
         ensures { result ≡ is_open self }
     {
-        match self {
-            Connection::Closed => false,
-            Connection::Open => true,
-            Connection::Closing => false,
-        }
+        self == Connection::Open
     }
 
     pub fn is_closing(self) -> bool
         ensures { result ≡ is_closing self }
     {
-        match self {
-            Connection::Closed => false,
-            Connection::Open => false,
-            Connection::Closing => true,
-        }
+        self == Connection::Closing
     }
 }
 
@@ -61,20 +49,12 @@ impl Backlog {
     pub fn is_clear(self) -> bool
         ensures { result ≡ is_clear self }
     {
-        match self {
-            Backlog::Clear => true,
-            Backlog::Unheeded => false,
-            Backlog::Marked => false,
-        }
+        self == Backlog::Clear
     }
 
     pub fn is_unheeded(self) -> bool
         ensures { result ≡ is_unheeded self }
     {
-        match self {
-            Backlog::Clear => false,
-            Backlog::Unheeded => true,
-            Backlog::Marked => false,
-        }
+        self == Backlog::Unheeded
     }
 }

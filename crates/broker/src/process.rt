@@ -2,16 +2,16 @@
 // Paper 01, "Names and places".
 ghost use Rattle.std.specs.Prelude.{◌≡◌};
 ghost use Rattle.broker.specs.Names.{same_vmid, is_started, is_running, is_migrating, is_ended, is_live, endpoint};
-ghost use Rattle.broker.specs.Names.{unknown, is_open_request, asks_for, posted_to};
+ghost use Rattle.broker.specs.Names.{unknown, asks_for, posted_to};
 
 use transit::Rank;
 
 // The lower level of name: a host, and a number drawn on it. `Vmid(0, 0)` is unknown.
-#[derive(Clone, Copy)]
+#[derive(Clone, Copy, PartialEq, Eq)]
 pub struct Vmid(pub u8, pub u16);
 
 // A rank's standing. A migrating rank has a source process (the mover) and a target process (the arrival).
-#[derive(Clone, Copy)]
+#[derive(Clone, Copy, PartialEq, Eq)]
 pub enum Status {
     Unstarted,
     Running(Vmid),
@@ -20,16 +20,17 @@ pub enum Status {
 }
 
 // A connection request (a call): the rank called, and the vmid that the request was posted to.
-#[derive(Clone, Copy)]
-pub enum Request {
-    Absent,
-    Posted(Rank, Vmid),
+#[derive(Clone, Copy, PartialEq, Eq)]
+pub struct Request {
+    pub to: Rank,
+    pub vmid: Vmid,
 }
 
-#[derive(Clone, Copy)]
+// A rank has at most one open call.
+#[derive(Clone, Copy, PartialEq, Eq)]
 pub struct Process {
     pub status: Status,
-    pub request: Request,
+    pub request: Option<Request>,
 }
 
 impl Vmid {
@@ -43,7 +44,7 @@ impl Vmid {
     pub fn same(self, other: Vmid) -> bool
         ensures { result ≡ same_vmid self other }
     {
-        self.0 == other.0 && self.1 == other.1
+        self == other
     }
 }
 
@@ -51,57 +52,32 @@ impl Status {
     pub fn is_started(self) -> bool
         ensures { result ≡ is_started self }
     {
-        match self {
-            Status::Unstarted => false,
-            Status::Running(_) => true,
-            Status::Migrating(_, _) => true,
-            Status::Ended(_) => true,
-        }
+        !matches!(self, Status::Unstarted)
     }
 
     pub fn is_running(self) -> bool
         ensures { result ≡ is_running self }
     {
-        match self {
-            Status::Unstarted => false,
-            Status::Running(_) => true,
-            Status::Migrating(_, _) => false,
-            Status::Ended(_) => false,
-        }
+        matches!(self, Status::Running(_))
     }
 
     pub fn is_migrating(self) -> bool
         ensures { result ≡ is_migrating self }
     {
-        match self {
-            Status::Unstarted => false,
-            Status::Running(_) => false,
-            Status::Migrating(_, _) => true,
-            Status::Ended(_) => false,
-        }
+        matches!(self, Status::Migrating(_, _))
     }
 
     pub fn is_ended(self) -> bool
         ensures { result ≡ is_ended self }
     {
-        match self {
-            Status::Unstarted => false,
-            Status::Running(_) => false,
-            Status::Migrating(_, _) => false,
-            Status::Ended(_) => true,
-        }
+        matches!(self, Status::Ended(_))
     }
 
     // Running or migrating.
     pub fn is_live(self) -> bool
         ensures { result ≡ is_live self }
     {
-        match self {
-            Status::Unstarted => false,
-            Status::Running(_) => true,
-            Status::Migrating(_, _) => true,
-            Status::Ended(_) => false,
-        }
+        matches!(self, Status::Running(_) | Status::Migrating(_, _))
     }
 
     // The vmid of the current end: of the target process in a migration, the last one of an ended rank.
@@ -110,38 +86,21 @@ impl Status {
     {
         match self {
             Status::Unstarted => Vmid::unknown(),
-            Status::Running(v) => v,
-            Status::Migrating(_, target) => target,
-            Status::Ended(v) => v,
+            Status::Running(v) | Status::Migrating(_, v) | Status::Ended(v) => v,
         }
     }
 }
 
-impl Request {
-    pub fn is_open(self) -> bool
-        ensures { result ≡ is_open_request self }
-    {
-        match self {
-            Request::Absent => false,
-            Request::Posted(_, _) => true,
-        }
-    }
+// Whether the call is to `b`.
+pub fn asks_for(request: Option<Request>, b: Rank) -> bool
+    ensures { result ≡ asks_for b request }
+{
+    request.is_some_and(|q| q.to == b)
+}
 
-    pub fn asks_for(self, b: Rank) -> bool
-        ensures { result ≡ asks_for b self }
-    {
-        match self {
-            Request::Absent => false,
-            Request::Posted(c, _) => c.0 == b.0,
-        }
-    }
-
-    pub fn posted_to(self) -> Vmid
-        ensures { result ≡ posted_to self }
-    {
-        match self {
-            Request::Absent => Vmid::unknown(),
-            Request::Posted(_, v) => v,
-        }
-    }
+// The vmid that the call was posted to.
+pub fn posted_to(request: Option<Request>) -> Vmid
+    ensures { result ≡ posted_to request }
+{
+    request.map_or(Vmid::unknown(), |q| q.vmid)
 }

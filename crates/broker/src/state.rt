@@ -3,12 +3,12 @@ ghost use Rattle.std.specs.Prelude.{◌≡◌};
 ghost use Rattle.broker.specs.State.{view, fresh};
 
 use crate::link::{Backlog, Connection, Link};
-use crate::process::{Process, Request, Status, Vmid};
+use crate::process::{Process, Status, Vmid};
 use transit::{CELLS, RANKS, Rank, Transit};
 
 // Sixteen processes; sixteen location tables of sixteen vmids each, row after row; a link for each rank towards each rank,
 // laid out likewise; how many numbers are drawn on each host; and the unread messages.
-#[derive(Clone, Copy)]
+#[derive(Clone, Copy, PartialEq, Eq)]
 pub struct Broker {
     pub processes: [Process; RANKS],
     pub locations: [Vmid; CELLS],
@@ -30,20 +30,19 @@ impl Broker {
     {
         let process = Process {
             status: Status::Unstarted,
-            request: Request::Absent,
+            request: None,
         };
         let link = Link {
             connection: Connection::Closed,
             backlog: Backlog::Clear,
         };
         let unknown = Vmid(0, 0);
-        let transit = Transit::fresh();
         Broker {
             processes: [process; RANKS],
             locations: [unknown; CELLS],
             links: [link; CELLS],
             drawn: [0; 8],
-            transit: transit,
+            transit: Transit::fresh(),
         }
     }
 }

@@ -25,7 +25,7 @@ fn call_checked(
     b: Rank,
     first: Status,
     second: Status,
-    request: Request,
+    request: Option<Request>,
     line: Connection,
 ) -> Verdict
     ensures { verdict_of result ≡ judged passed (call_tests a b first second request line) }
@@ -33,7 +33,7 @@ fn call_checked(
     two_ranks(a, b, first, second)?;
     running(first)?;
     refuse_if(!line.is_closed(), Refusal::Connected)?;
-    refuse_if(request.is_open(), Refusal::RequestOpen)
+    refuse_if(request.is_some(), Refusal::RequestOpen)
 }
 
 pub fn call_verdict(a: Rank, b: Rank, roster: &Roster) -> Verdict
@@ -54,6 +54,6 @@ pub fn call(a: Rank, b: Rank, roster: &mut Roster) -> Values
     ensures { RosterDoes (call a b) roster.old result roster.new }
 {
     let vmid = location_of(a, b, roster);
-    set_request(a, Request::Posted(b, vmid), roster);
+    set_request(a, Some(Request { to: b, vmid }), roster);
     Values(vmid.0 as Value, vmid.1 as Value, 0)
 }

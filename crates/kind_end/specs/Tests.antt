@@ -11,7 +11,7 @@ use Rattle.verdict.specs.Tests.{one_tests, running_tests}
 use Rattle.verdict.specs.Verdict.{Test, test}
 
 -- of the rank's standing and call, of whether it has no line, and of the first message unread by it
-abbrev pub end_tests : Rank → Status → Request → Bool → Option Message → List Test
+abbrev pub end_tests : Rank → Status → Option Request → Bool → Option Message → List Test
 end_tests r t q alone f =
     one_tests r t ++
     running_tests t ++

@@ -23,7 +23,7 @@ use verdict::{Verdict, one_rank, refuse_if, running};
 fn end_checked(
     r: Rank,
     standing: Status,
-    request: Request,
+    request: Option<Request>,
     alone: bool,
     found: Option<Message>,
 ) -> Verdict
@@ -32,7 +32,7 @@ fn end_checked(
     one_rank(r, standing)?;
     running(standing)?;
     refuse_if(!alone, Refusal::Connected)?;
-    refuse_if(request.is_open(), Refusal::RequestOpen)?;
+    refuse_if(request.is_some(), Refusal::RequestOpen)?;
     refuse_if(found.is_some(), Refusal::UnreadLeft)
 }
 

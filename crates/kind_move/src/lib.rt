@@ -25,14 +25,20 @@ use roster_write::{set_drawn, set_standing};
 use transit::{Rank, Slots, Value};
 use verdict::{Verdict, refuse_if, running};
 
-fn move_checked(r: Rank, host: u8, standing: Status, request: Request, drawn: u16) -> Verdict
+fn move_checked(
+    r: Rank,
+    host: u8,
+    standing: Status,
+    request: Option<Request>,
+    drawn: u16,
+) -> Verdict
     ensures { verdict_of result ≡ judged passed (move_tests r host standing request drawn) }
 {
     refuse_if(Broker::RANKS <= r.0, Refusal::RankRange)?;
     refuse_if(Broker::HOSTS <= host, Refusal::HostRange)?;
     refuse_if(!standing.is_started(), Refusal::NotStarted)?;
     running(standing)?;
-    refuse_if(request.is_open(), Refusal::RequestOpen)?;
+    refuse_if(request.is_some(), Refusal::RequestOpen)?;
     refuse_if(Broker::NUMBERS <= drawn, Refusal::NumbersSpent)
 }
 

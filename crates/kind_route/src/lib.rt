@@ -13,18 +13,24 @@ ghost use Rattle.kind_route.specs.Tests.{route_tests};
 
 use answer::{Refusal, Values};
 use broker::link::Connection;
-use broker::process::{Request, Status, Vmid};
+use broker::process::{Request, Status, Vmid, asks_for, posted_to};
 use roster::Roster;
 use roster_read::{request_of, standing_of};
 use roster_write::{connect_both, set_location, set_request};
 use transit::{Rank, Value};
 use verdict::{Verdict, refuse_if, two_ranks};
 
-fn route_checked(a: Rank, b: Rank, first: Status, second: Status, request: Request) -> Verdict
+fn route_checked(
+    a: Rank,
+    b: Rank,
+    first: Status,
+    second: Status,
+    request: Option<Request>,
+) -> Verdict
     ensures { verdict_of result ≡ judged passed (route_tests a b first second request) }
 {
     two_ranks(a, b, first, second)?;
-    refuse_if(!request.asks_for(b), Refusal::NoRequest)
+    refuse_if(!asks_for(request, b), Refusal::NoRequest)
 }
 
 pub fn route_verdict(a: Rank, b: Rank, roster: &Roster) -> Verdict
@@ -43,8 +49,8 @@ fn withdraw(a: Rank, b: Rank, roster: &mut Roster)
     ensures { Holds roster.new (withdraw a b (ranks_of roster.old)) }
 {
     let request = request_of(a, roster);
-    if request.asks_for(b) {
-        set_request(a, Request::Absent, roster);
+    if asks_for(request, b) {
+        set_request(a, None, roster);
     }
 }
 
@@ -65,7 +71,7 @@ fn route_on(a: Rank, b: Rank, end: Vmid, roster: &mut Roster) -> Values
     ensures { RosterDoes (route_on a b end) roster.old result roster.new }
 {
     set_location(a, b, end, roster);
-    set_request(a, Request::Posted(b, end), roster);
+    set_request(a, Some(Request { to: b, vmid: end }), roster);
     Values(1, end.0 as Value, end.1 as Value)
 }
 
@@ -76,10 +82,10 @@ pub fn route(a: Rank, b: Rank, roster: &mut Roster) -> Values
 {
     let request = request_of(a, roster);
     let standing = standing_of(b, roster);
-    let posted = request.posted_to();
+    let posted = posted_to(request);
     let end = standing.endpoint();
     if standing.is_ended() {
-        set_request(a, Request::Absent, roster);
+        set_request(a, None, roster);
         return Values(2, 0, 0);
     }
     if posted.same(end) {

@@ -1,14 +1,13 @@
 // The entries that users call, each behind a function that does nothing but call it and says in full what it promises.
 #![tactic(auto)]
 
-ghost use Rattle.std.specs.Prelude.{true, List, [], ◌≡◌, ◌+◌, ◌^◌, ◌<◌, ◌≤◌, length, take, replicate};
+ghost use Rattle.std.specs.Prelude.{true, None, List, [], ◌≡◌, ◌+◌, ◌^◌, ◌<◌, ◌≤◌, length, take, replicate};
 ghost use Rattle.answer.specs.Answer.{number, NeverEighteen};
 ghost use Rattle.answer.specs.declared.Answer.TheVariants.{Refused};
 ghost use Rattle.answer.specs.declared.Refusal.{Refusal};
 ghost use Rattle.broker.specs.State.{fresh, view};
 ghost use Rattle.broker.specs.declared.link.Backlog.TheVariants.{Clear};
 ghost use Rattle.broker.specs.declared.link.Connection.TheVariants.{Closed};
-ghost use Rattle.broker.specs.declared.process.Request.TheVariants.{Absent};
 ghost use Rattle.broker.specs.declared.process.Status.TheVariants.{Unstarted};
 ghost use Rattle.desk.specs.Desk.{desk_of, IsDesk};
 ghost use Rattle.print_piece.specs.declared.Stop.TheVariants.{PageFull, KindUnknown, RecordCut};
@@ -39,7 +38,7 @@ use transit::{Contents, Slots};
 // "A fresh desk has no rank started, no messages, no numbers drawn, and table entries 0.0 (host 0, number 0: unknown)."
 pub fn fresh_desk() -> Broker
     ensures { view result ≡ record {
-      processes = replicate 16 (record { status = Unstarted; request = Absent });
+      processes = replicate 16 (record { status = Unstarted; request = None });
       locations = replicate 256 (record { 0 = 0; 1 = 0 });
       links = replicate 256 (record { connection = Closed; backlog = Clear });
       drawn = replicate 8 0;

@@ -1,6 +1,6 @@
 -- Call, route and part: what each does to the state and answers. Paper 01, "The step log", kinds 02, 03 and 0A.
 -- Assumes nothing.
-use Rattle.std.specs.Prelude.{cond, set}
+use Rattle.std.specs.Prelude.{cond, set, None}
 use Rattle.base.specs.Lists.{tally}
 use Rattle.transit.specs.Message.{picks}
 use Rattle.transit.specs.Unread.{relabel_all}
@@ -9,7 +9,7 @@ use Rattle.transit.specs.declared.Rank.{Rank}
 use Rattle.transit.specs.declared.Selection.{Selection}
 use Rattle.transit.specs.declared.Selection.TheVariants.{BetweenAt}
 use Rattle.protocol.specs.Done.{Done, done}
-use Rattle.broker.specs.Names.{same_vmid, is_ended, endpoint, asks_for, posted_to}
+use Rattle.broker.specs.Names.{same_vmid, is_ended, endpoint, asks_for, posted_to, posted}
 use Rattle.broker.specs.State.{
   State,
   cell,
@@ -25,13 +25,12 @@ use Rattle.broker.specs.State.{
 }
 use Rattle.broker.specs.declared.link.Connection.{Connection}
 use Rattle.broker.specs.declared.link.Connection.TheVariants.{Closed, Open}
-use Rattle.broker.specs.declared.process.Request.TheVariants.{Absent, Posted}
 use Rattle.broker.specs.declared.process.Vmid.{Vmid}
 
 -- "opens a's call, posted to a's entry for b. v1 host, v2 number."
 unfoldable pub call : Rank → Rank → State → Done
 call a b s =
-    done (with_request a (Posted b (location s a b)) s) (location s a b).0 (location s a b).1 0
+    done (with_request a (posted b (location s a b)) s) (location s a b).0 (location s a b).1 0
 
 -- both lines between a and b
 abbrev pub connect_both : Rank → Rank → Connection → State → State
@@ -39,11 +38,11 @@ connect_both a b c s = with_links (connect b a c (connect a b c s.links)) s
 
 -- a's call closes if it goes to b
 abbrev pub withdraw : Rank → Rank → State → State
-withdraw a b s = cond (asks_for b (request s a)) (with_request a Absent s) s
+withdraw a b s = cond (asks_for b (request s a)) (with_request a None s) s
 
 -- "if b is ended, the call closes, v1 is 2"
 abbrev pub route_to_ended : Rank → Rank → State → Done
-route_to_ended a b s = done (with_request a Absent s) 2 0 0
+route_to_ended a b s = done (with_request a None s) 2 0 0
 
 -- "a plain line stands both ways, calls a to b and b to a close, v1 is 0, v2 and v3 host and number"
 abbrev pub route_there : Rank → Rank → Vmid → State → Done
@@ -52,7 +51,7 @@ route_there a b v s = done (withdraw b a (withdraw a b (connect_both a b Open s)
 -- "Otherwise v1 is 1, and a's entry and the posted vmid become b's current end, given in v2 and v3."
 abbrev pub route_on : Rank → Rank → Vmid → State → Done
 route_on a b v s =
-    done (with_request a (Posted b v) (with_locations (set s.locations (cell a b) v) s)) 1 v.0 v.1
+    done (with_request a (posted b v) (with_locations (set s.locations (cell a b) v) s)) 1 v.0 v.1
 
 -- "if b is ended ..", "If the posted vmid is b's current end ..", "Otherwise .."
 unfoldable pub route : Rank → Rank → State → Done

@@ -1,7 +1,7 @@
 -- Soundness: named clauses for each sentence of paper 01, "Sound states", and of paper 02, change 4, in three groups, and their
 -- conjunction.
 -- Assumes nothing.
-use Rattle.std.specs.Prelude.{Bool, true, not, cond, ◌&&◌, ◌||◌, List, [], ◌∷◌, map, eqb, leb, ltb, length}
+use Rattle.std.specs.Prelude.{Bool, true, not, cond, ◌&&◌, ◌||◌, List, [], ◌∷◌, map, eqb, leb, ltb, length, Option, None, Some}
 use Rattle.std.specs.Bool.{beq}
 use Rattle.base.specs.Lists.{select, every, never_falls, rises_within}
 use Rattle.transit.specs.Message.{between, at, place_number, is_same_rank, is_rank, ranks, cells}
@@ -31,7 +31,6 @@ use Rattle.broker.specs.Ranks.{every_rank, every_pair}
 use Rattle.base.specs.Below.{all_below}
 use Rattle.broker.specs.State.{State, status, request, location, connection, backlog, drawn_on, messages}
 use Rattle.broker.specs.declared.process.Request.{Request}
-use Rattle.broker.specs.declared.process.Request.TheVariants.{Absent, Posted}
 use Rattle.broker.specs.declared.process.Vmid.{Vmid}
 
 -- "For each rank and each other rank the state holds ..": a part for each rank, for each rank and each rank, and for each host
@@ -54,9 +53,9 @@ abbrev pub is_drawn : State → Vmid → Bool
 is_drawn s v = ltb v.0 hosts && ltb 0 v.1 && leb v.1 (drawn_on s v.0)
 
 -- a test of the rank that a call goes to and of the vmid that it was posted to
-abbrev pub of_call : (Rank → Bool) → (Vmid → Bool) → Request → Bool
-of_call f g Absent = true
-of_call f g (Posted b v) = f b && g v
+abbrev pub of_call : (Rank → Bool) → (Vmid → Bool) → Option Request → Bool
+of_call f g None = true
+of_call f g (Some q) = f q.to && g q.vmid
 
 -- "each vmid in use .. has a number already drawn"
 unfoldable pub vmids_drawn : State → Bool

@@ -1,7 +1,7 @@
 -- What a number of a roster stands for: every number stands for something, and zero for what a fresh desk has.
 -- Paper 01, "Names and places". Assumes nothing.
-use Rattle.std.specs.Prelude.{cond, ℕ, ◌/◌, ◌%◌, eqb}
-use Rattle.broker.specs.Names.{vmid}
+use Rattle.std.specs.Prelude.{cond, ℕ, ◌/◌, ◌%◌, eqb, Option, None}
+use Rattle.broker.specs.Names.{vmid, posted}
 use Rattle.transit.specs.Message.{rank}
 use Rattle.broker.specs.declared.link.Backlog.{Backlog}
 use Rattle.broker.specs.declared.link.Backlog.TheVariants.{Clear, Unheeded, Marked}
@@ -9,7 +9,6 @@ use Rattle.broker.specs.declared.link.Connection.{Connection}
 use Rattle.broker.specs.declared.link.Connection.TheVariants.{Closed, Open, Closing}
 use Rattle.broker.specs.declared.link.Link.{Link}
 use Rattle.broker.specs.declared.process.Request.{Request}
-use Rattle.broker.specs.declared.process.Request.TheVariants.{Absent, Posted}
 use Rattle.broker.specs.declared.process.Status.{Status}
 use Rattle.broker.specs.declared.process.Status.TheVariants.{Unstarted, Running, Migrating, Ended}
 use Rattle.broker.specs.declared.process.Vmid.{Vmid}
@@ -26,8 +25,8 @@ status_of w =
     (cond (eqb (w % 4) 2) (Ended (vmid_of (w / 4))) (Migrating (vmid_of (w / 4)) (vmid_of (w / 67108864)))))
 
 -- a call: the rank called in the lowest eight bits, then the vmid that it was posted to
-unfoldable pub request_of : ℕ → Request
-request_of w = cond (eqb w 0) Absent (Posted (rank (w % 256)) (vmid_of (w / 256)))
+unfoldable pub request_of : ℕ → Option Request
+request_of w = cond (eqb w 0) None (posted (rank (w % 256)) (vmid_of (w / 256)))
 
 -- "a line: none, plain, or notice"
 abbrev pub line_of : ℕ → Connection

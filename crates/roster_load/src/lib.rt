@@ -10,7 +10,7 @@ ghost use Rattle.roster.specs.Loaded.{row_of, row_in, with_processes, with_all_d
 ghost use Rattle.roster.specs.Roster.{ranks_of, Holds, Whole};
 
 use broker::link::{Backlog, Connection, Link};
-use broker::process::{Process, Request, Status, Vmid};
+use broker::process::{Process, Status, Vmid};
 use broker::state::Broker;
 use roster::{DRAWN, LINKS, LOCATIONS, REQUESTS, ROSTER_LENGTH, Roster};
 use roster_numbers::{
@@ -135,7 +135,7 @@ fn processes_in(roster: &Roster) -> [Process; RANKS]
 {
     let idle = Process {
         status: Status::Unstarted,
-        request: Request::Absent,
+        request: None,
     };
     let mut processes = [idle; RANKS];
     let mut i: usize = 0;

@@ -65,22 +65,25 @@ pub fn encode_standing(standing: Status) -> u64
 }
 
 // The rank called in the lowest eight bits, then the vmid that the call was posted to; 0 where no call is open.
-pub fn decode_request(w: u64) -> Request
+pub fn decode_request(w: u64) -> Option<Request>
     ensures { result ≡ request_of w }
 {
     if w == 0 {
-        return Request::Absent;
+        return None;
     }
-    Request::Posted(Rank((w % 256) as u8), decode_vmid(w / 256))
+    Some(Request {
+        to: Rank((w % 256) as u8),
+        vmid: decode_vmid(w / 256),
+    })
 }
 
 // A call as a number.
-pub fn encode_request(request: Request) -> u64
+pub fn encode_request(request: Option<Request>) -> u64
     ensures { request_of result ≡ request }
 {
     match request {
-        Request::Absent => 0,
-        Request::Posted(r, v) => POSTED + (r.0 as u64) + 256 * encode_vmid(v),
+        None => 0,
+        Some(q) => POSTED + (q.to.0 as u64) + 256 * encode_vmid(q.vmid),
     }
 }
 

@@ -24,7 +24,7 @@ pub fn standing_of(r: Rank, roster: &Roster) -> Status
 }
 
 // A rank's call.
-pub fn request_of(r: Rank, roster: &Roster) -> Request
+pub fn request_of(r: Rank, roster: &Roster) -> Option<Request>
     requires { Whole roster.now }
     ensures { result ≡ request (ranks_of roster.now) r }
 {
@@ -32,7 +32,7 @@ pub fn request_of(r: Rank, roster: &Roster) -> Request
     if i < RANKS {
         return decode_request(roster[REQUESTS + i]);
     }
-    Request::Absent
+    None
 }
 
 // `a`'s table entry for `b`.

@@ -29,7 +29,7 @@ pub fn set_standing(r: Rank, standing: Status, roster: &mut Roster)
 }
 
 // A rank's call.
-pub fn set_request(r: Rank, request: Request, roster: &mut Roster)
+pub fn set_request(r: Rank, request: Option<Request>, roster: &mut Roster)
     requires { Whole roster.old }
     ensures { Holds roster.new (with_request r request (ranks_of roster.old)) }
 {

@@ -1,6 +1,6 @@
 -- What soundness says of each rank and each rank, by their processes and what they hold towards each other.
 -- Paper 01, "Sound states". Assumes nothing.
-use Rattle.std.specs.Prelude.{Bool, not, cond, ◌&&◌, ◌||◌, List, ℕ, get_or}
+use Rattle.std.specs.Prelude.{Bool, not, cond, ◌&&◌, ◌||◌, List, ℕ, get_or, Option}
 use Rattle.std.specs.Bool.{beq}
 use Rattle.transit.specs.Message.{is_same_rank}
 use Rattle.transit.specs.declared.Rank.{Rank}
@@ -50,11 +50,11 @@ backlog_fits t u await back =
     (is_clear await || is_migrating t && is_started u) && beq (is_unheeded await) (is_closing back)
 
 -- "Calls go from a running rank to a started rank to which it has no line."
-abbrev pub request_fits : Rank → Request → Status → Status → Connection → Bool
+abbrev pub request_fits : Rank → Option Request → Status → Status → Connection → Bool
 request_fits b q t u there = not (asks_for b q) || is_running t && is_started u && is_closed there
 
 -- the first has no line, no await and no call to the second, and faces no notice of it
-abbrev pub holds_nothing : Rank → Request → Connection → Backlog → Connection → Bool
+abbrev pub holds_nothing : Rank → Option Request → Connection → Backlog → Connection → Bool
 holds_nothing b q there await back = is_closed there && is_clear await && not (asks_for b q) && not (is_closing back)
 
 -- two ranks with their processes, where the first believes the second to be, and the link of each to the other

@@ -14,7 +14,7 @@ ghost use Rattle.soundness_pairs.specs.Pairs.{
 };
 
 use broker::link::{Backlog, Connection, Link};
-use broker::process::{Process, Request, Status, Vmid};
+use broker::process::{Process, Request, Status, Vmid, asks_for};
 use soundness_names::{are_distinct, is_drawn, share_none};
 use transit::{CELLS, RANKS, Rank};
 
@@ -58,23 +58,29 @@ fn backlog_fits(one: Status, other: Status, backlog: Backlog, back: Connection) 
     owned & announced
 }
 
-fn request_fits(b: Rank, request: Request, one: Status, other: Status, there: Connection) -> bool
+fn request_fits(
+    b: Rank,
+    request: Option<Request>,
+    one: Status,
+    other: Status,
+    there: Connection,
+) -> bool
     ensures { result ≡ request_fits b request one other there }
 {
-    !request.asks_for(b) | one.is_running() & other.is_started() & there.is_closed()
+    !asks_for(request, b) | one.is_running() & other.is_started() & there.is_closed()
 }
 
 // A rank has no line, no await and no call to another, `b`, and faces no notice of it. That always fits, and most are so.
 fn holds_nothing(
     b: Rank,
-    request: Request,
+    request: Option<Request>,
     there: Connection,
     backlog: Backlog,
     back: Connection,
 ) -> bool
     ensures { result ≡ holds_nothing b request there backlog back }
 {
-    there.is_closed() & backlog.is_clear() & !request.asks_for(b) & !back.is_closing()
+    there.is_closed() & backlog.is_clear() & !asks_for(request, b) & !back.is_closing()
 }
 
 // Two ranks with their processes, where the first believes the second to be, and the link of each to the other.

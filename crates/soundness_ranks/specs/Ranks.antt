@@ -1,6 +1,6 @@
 -- What soundness says of each rank, by its process and its link to itself. Paper 01, "Sound states".
 -- Assumes nothing.
-use Rattle.std.specs.Prelude.{Bool, not, ◌&&◌, List, ℕ, get_or}
+use Rattle.std.specs.Prelude.{Bool, not, ◌&&◌, List, ℕ, get_or, Option}
 use Rattle.transit.specs.declared.Rank.{Rank}
 use Rattle.broker.specs.Names.{asks_for, is_closed, is_clear}
 use Rattle.transit.specs.Message.{is_rank}
@@ -13,11 +13,11 @@ use Rattle.broker.specs.declared.process.Request.{Request}
 use Rattle.soundness_names.specs.Names.{is_drawn_on, vmids_drawn}
 
 -- "Ranks .. are in range, and each vmid in a .. call has a number already drawn"
-abbrev pub request_drawn : List ℕ → Request → Bool
+abbrev pub request_drawn : List ℕ → Option Request → Bool
 request_drawn drawn q = of_call is_rank (is_drawn_on drawn) q
 
 -- "Nobody has a line, await, call .. with itself."
-abbrev pub nothing_with_self : Rank → Request → Link → Bool
+abbrev pub nothing_with_self : Rank → Option Request → Link → Bool
 nothing_with_self r q own = is_closed own.connection && is_clear own.backlog && not (asks_for r q)
 
 -- a rank's process, and its link to itself

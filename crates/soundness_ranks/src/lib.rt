@@ -5,27 +5,27 @@ ghost use Rattle.std.specs.Prelude.{◌≡◌};
 ghost use Rattle.soundness_ranks.specs.Ranks.{request_drawn, nothing_with_self, rank_sound, ranks_sound};
 
 use broker::link::Link;
-use broker::process::{Process, Request};
+use broker::process::{Process, Request, asks_for};
 use broker::state::Broker;
 use soundness_names::{is_drawn, vmids_drawn};
 use transit::{CELLS, RANKS, Rank};
 
 // A request is to a rank, and posted to a vmid that is drawn.
-fn request_drawn(drawn: [u16; 8], request: Request) -> bool
+fn request_drawn(drawn: [u16; 8], request: Option<Request>) -> bool
     ensures { result ≡ request_drawn drawn request }
 {
     match request {
-        Request::Absent => true,
-        Request::Posted(b, v) => (b.0 < Broker::RANKS) & is_drawn(drawn, v),
+        None => true,
+        Some(q) => (q.to.0 < Broker::RANKS) & is_drawn(drawn, q.vmid),
     }
 }
 
-fn nothing_with_self(r: Rank, request: Request, own: Link) -> bool
+fn nothing_with_self(r: Rank, request: Option<Request>, own: Link) -> bool
     ensures { result ≡ nothing_with_self r request own }
 {
     let connection = own.connection;
     let backlog = own.backlog;
-    connection.is_closed() & backlog.is_clear() & !request.asks_for(r)
+    connection.is_closed() & backlog.is_clear() & !asks_for(request, r)
 }
 
 // A rank's process, and its link to itself.

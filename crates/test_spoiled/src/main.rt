@@ -7,7 +7,6 @@ ghost use Rattle.std.specs.Prelude.{◌≤◌, length};
 mod change;
 mod number;
 mod part;
-mod same;
 mod tell;
 mod word;
 

@@ -31,7 +31,10 @@ pub fn process_after(process: Process, word: Word, n: [u64; 5]) -> Process {
         },
         _ => Process {
             status: status,
-            request: Request::Posted(rank(n[1]), vmid(n[2], n[3])),
+            request: Some(Request {
+                to: rank(n[1]),
+                vmid: vmid(n[2], n[3]),
+            }),
         },
     }
 }

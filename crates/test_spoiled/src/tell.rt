@@ -1,5 +1,4 @@
 // What a step finds of a state.
-use crate::same::same;
 use broker::state::Broker;
 use std::io;
 use steps::step;
@@ -13,7 +12,7 @@ pub fn tell(rt: &impl Print, name: &[u8], broker: Broker) -> io::Result<()> {
     let number = answer.number();
     let after = stepped.broker;
     rt.write_all(name)?;
-    if !same(broker, after) {
+    if after != broker {
         return println!(rt; " changed");
     }
     if number == 1 {

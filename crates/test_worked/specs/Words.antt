@@ -8,12 +8,11 @@ use Rattle.transit.specs.declared.Message.{Message}
 use Rattle.transit.specs.declared.Place.{Place}
 use Rattle.transit.specs.declared.Place.TheVariants.{SourceList, SourceChannel, EndList, Channel}
 use Rattle.protocol.specs.Messages.{sent_between}
-use Rattle.broker.specs.Names.{vmid}
+use Rattle.broker.specs.Names.{vmid, posted}
 use Rattle.broker.specs.State as State
 use Rattle.broker.specs.State.{State, cell, connect, await, with_status, with_request, with_locations, with_links, with_drawn, with_unread}
 use Rattle.broker.specs.declared.link.Backlog.TheVariants.{Unheeded, Marked}
 use Rattle.broker.specs.declared.link.Connection.TheVariants.{Open, Closing}
-use Rattle.broker.specs.declared.process.Request.TheVariants.{Posted}
 use Rattle.broker.specs.declared.process.Status.TheVariants.{Running, Migrating, Ended}
 
 abbrev pub Change : Type 0
@@ -52,7 +51,7 @@ tables b h n s =
 
 -- a's call to b
 abbrev pub call : ℕ → ℕ → ℕ → ℕ → Change
-call a b h n = with_request (rank a) (Posted (rank b) (vmid h n))
+call a b h n = with_request (rank a) (posted (rank b) (vmid h n))
 
 -- a's line to b
 abbrev pub plain : ℕ → ℕ → Change

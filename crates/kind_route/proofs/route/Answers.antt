@@ -1,5 +1,5 @@
 -- Each way on is its case: what the reads found decides, whatever is unread. Assumes nothing.
-use Rattle.std.proofs.Common.{◌≡◌, sym, ◌∙◌}
+use Rattle.std.proofs.Common.{◌≡◌, sym, ◌∙◌, Option}
 use Rattle.transit.specs.Unread.{Unread}
 use Rattle.transit.specs.declared.Rank.{Rank}
 use Rattle.broker.specs.Names.{endpoint, posted_to}
@@ -13,7 +13,7 @@ use Rattle.kind_route.proofs.route.Goals as goal
 
 -- what the reads found, whatever is unread
 found :
-    {a b : Rank} {call : Request} {posted : Vmid} {standing : Status} {end : Vmid} (s : State) (u : Unread) →
+    {a b : Rank} {call : Option Request} {posted : Vmid} {standing : Status} {end : Vmid} (s : State) (u : Unread) →
     call ≡ request s a → posted ≡ posted_to call → standing ≡ status s b → end ≡ endpoint standing →
     Found a b (with_unread u s) call posted standing end
 found s u calls posts stands ends = record { calls = calls; posts = posts; stands = stands; ends = ends }

@@ -1,5 +1,5 @@
 -- Whether a call closes is no matter of the messages; and both lines, and then the calls of both. Assumes nothing.
-use Rattle.std.specs.Prelude.{Bool, true, false, cond, ◌≡◌, refl}
+use Rattle.std.specs.Prelude.{Bool, true, false, cond, ◌≡◌, refl, None}
 use Rattle.std.proofs.Common.{ap, ◌∙◌}
 use Rattle.transit.specs.Unread.{Unread}
 use Rattle.transit.specs.declared.Rank.{Rank}
@@ -8,15 +8,14 @@ use Rattle.protocol.specs.Done.{done}
 use Rattle.broker.specs.Names.{asks_for}
 use Rattle.broker.specs.State.{State, request, with_request, with_unread}
 use Rattle.broker.specs.declared.link.Connection.TheVariants.{Open}
-use Rattle.broker.specs.declared.process.Request.TheVariants.{Absent}
 use Rattle.broker.specs.declared.process.Vmid.{Vmid}
 
 pub withdraw_unread : (a b : Rank) (u : Unread) (s : State) → with_unread u (withdraw a b s) ≡ withdraw a b (with_unread u s)
 withdraw_unread a b u s = at (asks_for b (request s a))
   where
     at : (t : Bool) →
-        with_unread u (cond t (with_request a Absent s) s) ≡
-        cond t (with_request a Absent (with_unread u s)) (with_unread u s)
+        with_unread u (cond t (with_request a None s) s) ≡
+        cond t (with_request a None (with_unread u s)) (with_unread u s)
     at true = refl
     at false = refl
 

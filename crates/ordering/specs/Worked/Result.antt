@@ -1,6 +1,6 @@
 -- What a worked run comes to, and what is read from it: what each pair sent, took and has unread, and that a list is a second list.
 -- Assumes nothing.
-use Rattle.std.specs.Prelude.{◌≡◌, Bool, true, ◌&&◌, List, [], ◌∷◌, ◌++◌, map, ℕ, get_or}
+use Rattle.std.specs.Prelude.{◌≡◌, Bool, true, ◌&&◌, List, [], ◌∷◌, ◌++◌, map, ℕ, get_or, None}
 use Rattle.std.proofs.Common.{sym, ap, ◌∙◌}
 use Rattle.std.proofs.Math.Option.{none}
 use Rattle.base.specs.Laws.Lists.{select_select}
@@ -14,7 +14,6 @@ use Rattle.record.specs.Kind
 use Rattle.record.specs.Record.{bytes_of}
 use Rattle.broker.specs.State.{idle, fresh, messages}
 use Rattle.broker.specs.declared.process.Process.{Process}
-use Rattle.broker.specs.declared.process.Request.TheVariants.{Absent}
 use Rattle.broker.specs.declared.process.Status.{Status}
 use Rattle.record.specs.declared.Record.{Record}
 use Rattle.record.specs.declared.Record.TheVariants.{Start, Call, Route, Send, Take, Move, Heed, Drain, Land, Part, End, Look}
@@ -122,7 +121,7 @@ abbrev pub did : Record → ℕ → ℕ → Entry
 did r v1 v3 = record { read = r; v1 = v1; v3 = v3 }
 
 abbrev pub process : Status → Process
-process t = record { status = t; request = Absent }
+process t = record { status = t; request = None }
 
 -- the bytes of a record; and the readings of a list of records, each a whole log
 abbrev pub written : Record → List ℕ

@@ -1,6 +1,6 @@
 -- What is accepted in one state is accepted in a quiet state with the same core: start, take, move and end as they stand, and a send once
 -- the two ranks are joined. Assumes nothing.
-use Rattle.std.specs.Prelude.{◌≡◌, refl, Bool, true, false, not, ◌&&◌, ◌||◌, List, map, ℕ, ◌<◌, length, get_or}
+use Rattle.std.specs.Prelude.{◌≡◌, refl, Bool, true, false, not, ◌&&◌, ◌||◌, List, map, ℕ, ◌<◌, length, get_or, Option}
 use Rattle.std.proofs.Common.{sym, ap, ◌∙◌}
 use Rattle.std.proofs.Math.Option.{none}
 use Rattle.std.proofs.lemmas.List.{length-map}
@@ -87,7 +87,7 @@ peer_lives s a b h f =
     (side s a b) (side s b a) (stands (status s a)) (stands (status s b)) fit back (both (both fit back) (rw f.line))
 
 -- A state s, and a state x with the same standings, settled, in which nobody migrates.
-module _ (s x : State) (standing : (core x).statuses ≡ (core s).statuses) {q : Rank → Request} {l : Rank → Rank → Connection}
+module _ (s x : State) (standing : (core x).statuses ≡ (core s).statuses) {q : Rank → Option Request} {l : Rank → Rank → Connection}
     (c : Calm x nobody q l)
   where
     -- x has the standings of s, settled: who is started is so in both, and who lives in s runs in x.
@@ -201,7 +201,7 @@ module _ (s : State) (a b : Rank) (v : ℕ) (p : refusal s (Send a b v) ≡ none
     fits : SendFits s a b
     fits = send_fits s a b v p
 
-    module _ {q : Rank → Request} {l : Rank → Rank → Connection} (c : Calm x nobody q l) where
+    module _ {q : Rank → Option Request} {l : Rank → Rank → Connection} (c : Calm x nobody q l) where
       both_alike : Two x a b
       both_alike = two_alike s x standing c a b fits.two
 
@@ -235,6 +235,6 @@ module _ (s : State) (a b : Rank) (v : ℕ) (p : refusal s (Send a b v) ≡ none
     part_behind c = part_accepted x a b (record { two = both_alike c; running = sender_runs c; plain = rw (line_stands c) })
 
     -- The receiver runs, so that a route leads there.
-    pub receiver_runs : {q : Rank → Request} {l : Rank → Rank → Connection} → Calm x nobody q l → sound s ≡ true
+    pub receiver_runs : {q : Rank → Option Request} {l : Rank → Rank → Connection} → Calm x nobody q l → sound s ≡ true
         → is_ended (status x b) ≡ false
     receiver_runs c hs = running_not_ended (status x b) (live_runs s x standing c b fits.two.second (peer_lives s a b hs fits))

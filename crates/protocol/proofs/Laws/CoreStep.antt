@@ -1,6 +1,6 @@
 -- Every accepted record changes the core of a sound state by its function of the core, and a take answers the value and the running number
 -- of the first of its pair's letters. Assumes nothing.
-use Rattle.std.specs.Prelude.{Some, ◌≡◌, refl, false, eqb, ℕ, length}
+use Rattle.std.specs.Prelude.{Option, Some, ◌≡◌, refl, false, eqb, ℕ, length}
 use Rattle.std.proofs.Math.Path.{ap}
 use Rattle.std.proofs.Common.{◌∙◌}
 use Rattle.std.proofs.Math.Bool.{true}
@@ -51,7 +51,7 @@ use Rattle.record.specs.declared.Record.{Record}
 use Rattle.record.specs.declared.Record.TheVariants.{Start, Call, Route, Send, Take, Move, Heed, Drain, Land, Part, End, Look}
 
 -- The core does not see calls, lines and tables.
-core_with_request : (s : State) (r : Rank) (q : Request) → core (with_request r q s) ≡ core s
+core_with_request : (s : State) (r : Rank) (q : Option Request) → core (with_request r q s) ≡ core s
 core_with_request s r q = rw (standings_with_request settled s r q)
 
 -- A migration that is done is read as it was before.

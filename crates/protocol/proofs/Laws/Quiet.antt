@@ -1,7 +1,7 @@
 -- Quiet states, in which nobody migrates and no line, await or call stands; and the states that are quiet but for what is named. Start,
 -- take and end leave quiet what was quiet, and so do a move with its landing, and a call, a route, a send and a parting together.
 -- Assumes nothing.
-use Rattle.std.specs.Prelude.{◌≡◌, Bool, true, false, cond, ◌&&◌, ℕ, ◌<◌, length}
+use Rattle.std.specs.Prelude.{◌≡◌, Bool, true, false, cond, ◌&&◌, ℕ, ◌<◌, length, Option, None}
 use Rattle.std.proofs.Math.Path.{refl}
 use Rattle.std.proofs.Common.{ap, ◌∙◌, eq-eqb, length-set}
 use Rattle.base.specs.Laws.Tests.{by_test, same_either}
@@ -14,7 +14,7 @@ use Rattle.protocol.specs.Laws.State.{same_rank_self, link_set, status_with, req
 use Rattle.protocol.specs.Life.{start, end}
 use Rattle.protocol.specs.Messages.{send, take}
 use Rattle.protocol.specs.Migrate.{move, land, leave, leave_all}
-use Rattle.broker.specs.Names.{same_vmid, endpoint, is_migrating, is_ended}
+use Rattle.broker.specs.Names.{same_vmid, endpoint, is_migrating, is_ended, posted}
 use Rattle.broker.specs.Ranks.{each_rank}
 use Rattle.base.specs.Laws.Below.{each_below_fixed}
 use Rattle.protocol.specs.Sound.{sound}
@@ -23,13 +23,12 @@ use Rattle.broker.specs.declared.link.Connection.{Connection}
 use Rattle.broker.specs.declared.link.Connection.TheVariants.{Closed, Open}
 use Rattle.broker.specs.declared.link.Link.{Link}
 use Rattle.broker.specs.declared.process.Request.{Request}
-use Rattle.broker.specs.declared.process.Request.TheVariants.{Absent, Posted}
 use Rattle.broker.specs.declared.process.Status.{Status}
 use Rattle.broker.specs.declared.process.Status.TheVariants.{Running, Migrating, Ended}
 use Rattle.broker.specs.declared.process.Vmid.{Vmid}
 
 -- no backlog, and just these ranks migrating, these calls and these lines
-pub record Calm (x : State) (moves : Rank → Bool) (asks : Rank → Request) (line : Rank → Rank → Connection) : Type 0 where
+pub record Calm (x : State) (moves : Rank → Bool) (asks : Rank → Option Request) (line : Rank → Rank → Connection) : Type 0 where
   pub processes_long : length x.processes ≡ ranks
   pub links_long : length x.links ≡ cells
   pub migrating : (r : Rank) → r.0 < ranks → is_migrating (status x r) ≡ moves r
@@ -39,8 +38,8 @@ pub record Calm (x : State) (moves : Rank → Bool) (asks : Rank → Request) (l
 abbrev pub nobody : Rank → Bool
 nobody r = false
 
-abbrev pub uncalled : Rank → Request
-uncalled r = Absent
+abbrev pub uncalled : Rank → Option Request
+uncalled r = None
 
 abbrev pub unlinked : Rank → Rank → Connection
 unlinked a b = Closed
@@ -53,7 +52,7 @@ abbrev pub changed_at : {A : Type 0} → Rank → Rank → A → (Rank → Rank 
 changed_at r s v f p q = cond (is_same_rank p r && is_same_rank q s) v (f p q)
 
 -- The same state in other words.
-pub calm_as : {x : State} {m m' : Rank → Bool} {q q' : Rank → Request} {l l' : Rank → Rank → Connection} → Calm x m q l
+pub calm_as : {x : State} {m m' : Rank → Bool} {q q' : Rank → Option Request} {l l' : Rank → Rank → Connection} → Calm x m q l
     → ((r : Rank) → m r ≡ m' r) → ((r : Rank) → q r ≡ q' r) → ((a b : Rank) → l a b ≡ l' a b) → Calm x m' q' l'
 calm_as c em eq el =
     record {
@@ -65,7 +64,7 @@ calm_as c em eq el =
     }
 
 -- The changes of which the kinds are made, each as a change of what is named.
-module _ {x : State} {m : Rank → Bool} {q : Rank → Request} {l : Rank → Rank → Connection} (c : Calm x m q l) where
+module _ {x : State} {m : Rank → Bool} {q : Rank → Option Request} {l : Rank → Rank → Connection} (c : Calm x m q l) where
   -- All but the processes and the links may change.
   calm_kept : (y : State) → y.processes ≡ x.processes → y.links ≡ x.links → Calm y m q l
   calm_kept y ep el =
@@ -90,7 +89,7 @@ module _ {x : State} {m : Rank → Bool} {q : Rank → Request} {l : Rank → Ra
         requests = λ p hp. request_with_status x r p t ∙ c.requests p hp;
       }
 
-  calm_request : (r : Rank) (t : Request) → r.0 < ranks → Calm (with_request r t x) m (changed r t q) l
+  calm_request : (r : Rank) (t : Option Request) → r.0 < ranks → Calm (with_request r t x) m (changed r t q) l
   calm_request r t hr =
       record {
         processes_long = long_set ranks x.processes r.0 _ c.processes_long;
@@ -124,7 +123,7 @@ abbrev pub Moving : State → Rank → Type 0
 Moving x r = Calm x (changed r true nobody) uncalled unlinked
 
 abbrev pub Calling : State → Rank → Rank → Vmid → Type 0
-Calling x a b v = Calm x nobody (changed a (Posted b v) uncalled) unlinked
+Calling x a b v = Calm x nobody (changed a (posted b v) uncalled) unlinked
 
 abbrev pub Joined : State → Rank → Rank → Type 0
 Joined x a b = Calm x nobody uncalled (changed_at b a Open (changed_at a b Open unlinked))
@@ -165,7 +164,7 @@ land_calm x r c hr =
 -- A call from a quiet state is the only one.
 pub call_calm : (x : State) (a b : Rank) → AllQuiet x → a.0 < ranks → Calling (call a b x).state a b (location x a b)
 unfolding call
-call_calm x a b c ha = calm_request c a (Posted b (location x a b)) ha
+call_calm x a b c ha = calm_request c a (posted b (location x a b)) ha
 
 -- A vmid is the same as itself.
 pub same_vmid_self : (v : Vmid) → same_vmid v v ≡ true
@@ -175,24 +174,24 @@ same_vmid_self v = rw (eq-eqb v.0 v.0 refl, eq-eqb v.1 v.1 refl)
 module _ (x : State) (a b : Rank) (v : Vmid) (c : Calling x a b v) (ha : a.0 < ranks) (hb : b.0 < ranks)
     (runs : is_ended (status x b) ≡ false)
   where
-    posted : request x a ≡ Posted b v
-    posted = c.requests a ha ∙ rw (same_rank_self a)
+    called : request x a ≡ posted b v
+    called = c.requests a ha ∙ rw (same_rank_self a)
 
     pub route_corrects : same_vmid v (endpoint (status x b)) ≡ false → Calling (route a b x).state a b (endpoint (status x b))
     unfolding route
     route_corrects e =
-        rw (runs, posted, e)
+        rw (runs, called, e)
         (calm_as
-        (calm_kept (calm_request c a (Posted b (endpoint (status x b))) ha) (route_on a b (endpoint (status x b)) x).state refl refl)
+        (calm_kept (calm_request c a (posted b (endpoint (status x b))) ha) (route_on a b (endpoint (status x b)) x).state refl refl)
         (λ p. refl) (λ p. by_test (is_same_rank p a) (λ f. rw f) (λ f. rw f)) (λ p q. refl))
 
     pub route_joins : same_vmid v (endpoint (status x b)) ≡ true → Joined (route a b x).state a b
     unfolding route
     route_joins e =
-        let joined : Joined (with_request a Absent (connect_both a b Open x)) a b =
-        calm_as (calm_request (calm_connect (calm_connect c a b Open ha hb) b a Open hb ha) a Absent ha)
+        let joined : Joined (with_request a None (connect_both a b Open x)) a b =
+        calm_as (calm_request (calm_connect (calm_connect c a b Open ha hb) b a Open hb ha) a None ha)
         (λ p. refl) (λ p. by_test (is_same_rank p a) (λ f. rw f) (λ f. rw f)) (λ p q. refl) in
-        rw (runs, posted, e, same_rank_self b, joined.requests b hb) joined
+        rw (runs, called, e, same_rank_self b, joined.requests b hb) joined
 
 -- A send changes nothing of all that, and the parting of the only two that are joined leaves all quiet.
 pub send_calm : (x : State) (a b : Rank) (v : ℕ) {l : Rank → Rank → Connection} → Calm x nobody uncalled l

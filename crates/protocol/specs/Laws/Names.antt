@@ -1,6 +1,6 @@
 -- Vmids: whose number is drawn, which two lists do not share, and which a standing has.
 -- Assumes nothing.
-use Rattle.std.specs.Prelude.{◌≡◌, refl, Bool, true, false, not, cond, ◌&&◌, List, ℕ, ◌+◌, ◌<◌, ◌≤◌, eqb, ltb, length}
+use Rattle.std.specs.Prelude.{◌≡◌, refl, Bool, true, false, not, cond, ◌&&◌, List, ℕ, ◌+◌, ◌<◌, ◌≤◌, eqb, ltb, length, Option, None, Some}
 use Rattle.std.proofs.Common.{ap, ◌∙◌, arith, lt-ltb, leb-true, le-leb, eqb-true, eq-eqb}
 use Rattle.base.specs.Laws.Stores.{get_d_set}
 use Rattle.base.specs.Laws.Tests.{by_test, both, both_left, both_right, chosen, not_both, eqb_swap}
@@ -11,7 +11,6 @@ use Rattle.broker.specs.State.{next_vmid, draw, State, drawn_on}
 use Rattle.broker.specs.Names.{hosts, same_vmid, is_started, is_ended, endpoint, processes_of, vmids_of}
 use Rattle.protocol.specs.Sound.{is_drawn, of_call, none_shared}
 use Rattle.broker.specs.declared.process.Request.{Request}
-use Rattle.broker.specs.declared.process.Request.TheVariants.{Absent, Posted}
 use Rattle.broker.specs.declared.process.Status.{Status}
 use Rattle.broker.specs.declared.process.Status.TheVariants.{Unstarted, Running, Migrating, Ended}
 use Rattle.broker.specs.declared.process.Vmid.{Vmid}
@@ -82,6 +81,6 @@ processes_all (Ended v) h = absurd (not_both refl h)
 
 -- a wider test of vmids passes where a narrower does: of a call's vmid
 pub of_call_wider : (f : Rank → Bool) (p q : Vmid → Bool) → ((v : Vmid) → p v ≡ true → q v ≡ true)
-    → (c : Request) → of_call f p c ≡ true → of_call f q c ≡ true
-of_call_wider f p q wider Absent h = h
-of_call_wider f p q wider (Posted b v) h = both (both_left (f b) (p v) h) (wider v (both_right (f b) (p v) h))
+    → (c : Option Request) → of_call f p c ≡ true → of_call f q c ≡ true
+of_call_wider f p q wider None h = h
+of_call_wider f p q wider (Some c) h = both (both_left (f c.to) (p c.vmid) h) (wider c.vmid (both_right (f c.to) (p c.vmid) h))

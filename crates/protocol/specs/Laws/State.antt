@@ -1,5 +1,5 @@
 -- Laws of the state's parts and their changes: what stands at each place after a change. Assumes nothing.
-use Rattle.std.specs.Prelude.{◌≡◌, refl, true, false, cond, ◌&&◌, List, ℕ, ◌+◌, ◌<◌, eqb, length, get_or, set}
+use Rattle.std.specs.Prelude.{◌≡◌, refl, true, false, cond, ◌&&◌, List, ℕ, ◌+◌, ◌<◌, eqb, length, get_or, set, Option}
 use Rattle.std.proofs.Common.{ap, arith, eq-eqb, ne_eqb, eqb-true}
 use Rattle.std.proofs.lemmas.Bool.{eqb-false}
 use Rattle.base.specs.Laws.Stores.{get_d_set, store_unseen}
@@ -79,7 +79,7 @@ module _ (s : State) (r a : Rank) where
   status_with t n h =
       rw (process_with (record { status = t; request = request s r }) n h, status) (by_test (is_same_rank a r) (λ e. rw e) (λ e. rw e))
 
-  pub request_with : (q : Request) → length s.processes ≡ ranks → r.0 < ranks
+  pub request_with : (q : Option Request) → length s.processes ≡ ranks → r.0 < ranks
       → request (with_request r q s) a ≡ cond (is_same_rank a r) q (request s a)
   request_with q n h =
       rw (process_with (record { status = status s r; request = q }) n h, request) (by_test (is_same_rank a r) (λ e. rw e) (λ e. rw e))
@@ -88,5 +88,5 @@ module _ (s : State) (r a : Rank) where
   pub request_with_status : (t : Status) → request (with_status r t s) a ≡ request s a
   request_with_status t = store_unseen (λ (p : Process). p.request) s.processes r.0 a.0 _ idle refl
 
-  pub status_with_request : (q : Request) → status (with_request r q s) a ≡ status s a
+  pub status_with_request : (q : Option Request) → status (with_request r q s) a ≡ status s a
   status_with_request q = store_unseen (λ (p : Process). p.status) s.processes r.0 a.0 _ idle refl

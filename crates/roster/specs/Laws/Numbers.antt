@@ -1,11 +1,10 @@
 -- A standing, call or link stands for itself when it is written as a number and read back. Assumes nothing.
-use Rattle.std.specs.Prelude.{◌≡◌, refl, ℕ, ◌+◌, ◌*◌, ◌/◌, ◌%◌, ◌<◌}
+use Rattle.std.specs.Prelude.{◌≡◌, refl, ℕ, ◌+◌, ◌*◌, ◌/◌, ◌%◌, ◌<◌, None}
 use Rattle.std.proofs.Common.{zero-add, arith, ne_eqb, lit<}
 use Rattle.std.proofs.Math.Nat.{add-mul-mod_self_left, add-mul-div_left}
-use Rattle.broker.specs.Names.{vmid}
+use Rattle.broker.specs.Names.{vmid, posted}
 use Rattle.transit.specs.Message.{rank}
 use Rattle.broker.specs.State.{apart}
-use Rattle.broker.specs.declared.process.Request.TheVariants.{Absent, Posted}
 use Rattle.broker.specs.declared.process.Status.TheVariants.{Unstarted, Running, Migrating, Ended}
 use Rattle.roster.specs.Numbers.{vmid_of, status_of, request_of, line_of, await_of, link_of}
 
@@ -14,7 +13,7 @@ pub status_zero : status_of 0 ≡ Unstarted
 unfolding status_of
 status_zero = refl
 
-pub request_zero : request_of 0 ≡ Absent
+pub request_zero : request_of 0 ≡ None
 unfolding request_of
 request_zero = refl
 
@@ -47,7 +46,7 @@ migrating_back n m small =
     let last : (3 + 4 * n + 67108864 * m) / 67108864 ≡ m = omega arith in
     rw (tag, rest, last, vmid_below n m)
 
-pub posted_back : (r n : ℕ) → r < 256 → request_of (4294967296 + r + 256 * n) ≡ Posted (rank r) (vmid_of n)
+pub posted_back : (r n : ℕ) → r < 256 → request_of (4294967296 + r + 256 * n) ≡ posted (rank r) (vmid_of n)
 unfolding request_of
 posted_back r n small =
     let low : (4294967296 + r + 256 * n) % 256 ≡ r = omega arith in

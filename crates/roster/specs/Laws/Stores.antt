@@ -1,5 +1,5 @@
 -- The columns of a roster after a store. Assumes nothing.
-use Rattle.std.specs.Prelude.{◌≢◌, ◌≡◌, List, ℕ, ◌+◌, ◌<◌, length, get_or, set}
+use Rattle.std.specs.Prelude.{◌≢◌, ◌≡◌, List, ℕ, ◌+◌, ◌<◌, length, get_or, set, Option}
 use Rattle.std.proofs.Common.{ap, ◌∙◌, arith, get_or-set_same, get_or-set_other}
 use Rattle.base.specs.Laws.Tabulate.{tabulate_at, tabulate_set}
 use Rattle.base.specs.Lists.{tabulate}
@@ -41,7 +41,7 @@ standing_stored l r w whole b standing =
     (λ j p q. get_or-set_other l i j w 0 p))
 
 -- and of a call
-pub request_stored : (l : List ℕ) (r : Rank) (w : ℕ) {q : Request} → Whole l → r.0 < ranks → request_of w ≡ q
+pub request_stored : (l : List ℕ) (r : Rank) (w : ℕ) {q : Option Request} → Whole l → r.0 < ranks → request_of w ≡ q
     → Holds (set l (REQUESTS + r.0) w) (with_request r q (ranks_of l))
 unfolding ranks_of
 request_stored l r w whole b call =

@@ -2,10 +2,10 @@ use Rattle.std.proofs.Common.{sym, arith}
 use Rattle.roster.specs.Laws.Numbers.{request_zero, posted_back}
 use Rattle.roster_numbers.proofs.encode_request.Goals as goal
 
-pub returns-in-Absent : goal.returns-in-Absent
-returns-in-Absent c = rw request_zero (sym c.in-Absent.is)
+pub returns-in-None : goal.returns-in-None
+returns-in-None c = rw request_zero (sym c.in-None.is)
 
-pub returns-in-Posted : goal.returns-in-Posted
-returns-in-Posted c =
+pub returns-in-Some : goal.returns-in-Some
+returns-in-Some c =
     let v = c.encode_vmid in
-    rw (posted_back c.in-Posted.r.0 v.result (omega arith), v.ensures.result_value) (sym c.in-Posted.is)
+    rw (posted_back c.in-Some.q.to.0 v.result (omega arith), v.ensures.result_value) (sym c.in-Some.is)

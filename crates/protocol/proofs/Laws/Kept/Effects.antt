@@ -1,5 +1,5 @@
 -- The effect of each kind that changes a standing, a line, an await or a call on the view of every pair. Assumes nothing.
-use Rattle.std.specs.Prelude.{◌≡◌, Bool, cond, not, List, ℕ, ◌<◌, get_or}
+use Rattle.std.specs.Prelude.{◌≡◌, Bool, cond, not, List, ℕ, ◌<◌, get_or, Option, None, Some}
 use Rattle.std.proofs.Math.Path.{refl, sym}
 use Rattle.std.proofs.Common.{ap, ◌∙◌, length-set}
 use Rattle.std.proofs.Math.Bool.{true, false, and_comm, and-false}
@@ -71,6 +71,7 @@ use Rattle.broker.specs.Names.{
   is_closed,
   is_clear,
   is_unheeded,
+  posted,
 }
 use Rattle.broker.specs.State.{
   next_vmid,
@@ -93,22 +94,21 @@ use Rattle.broker.specs.declared.link.Connection.TheVariants.{Closed, Open}
 use Rattle.broker.specs.declared.link.Link.{Link}
 use Rattle.broker.specs.declared.process.Process.{Process}
 use Rattle.broker.specs.declared.process.Request.{Request}
-use Rattle.broker.specs.declared.process.Request.TheVariants.{Absent, Posted}
 use Rattle.broker.specs.declared.process.Status.{Status}
 use Rattle.broker.specs.declared.process.Status.TheVariants.{Running, Migrating, Ended}
 use Rattle.broker.specs.declared.process.Vmid.{Vmid}
 
 -- a call that is not open goes to nobody, and one that goes to a rank to no other
-no_ask : (q : Request) (b : Rank) → is_open_request q ≡ false → asks_for b q ≡ false
-no_ask Absent b h = refl
-no_ask (Posted c v) b h = absurd (not_both refl h)
+no_ask : (q : Option Request) (b : Rank) → is_open_request q ≡ false → asks_for b q ≡ false
+no_ask None b h = refl
+no_ask (Some q) b h = absurd (not_both refl h)
 
-same_ask : (q : Request) (b y : Rank) → asks_for b q ≡ true → asks_for y q ≡ is_same_rank b y
-same_ask Absent b y h = absurd (not_both h refl)
-same_ask (Posted c v) b y h = rw (same_rank_eq c b h)
+same_ask : (q : Option Request) (b y : Rank) → asks_for b q ≡ true → asks_for y q ≡ is_same_rank b y
+same_ask None b y h = absurd (not_both h refl)
+same_ask (Some q) b y h = rw (same_rank_eq q.to b h)
 
 -- a's calls where its call is put anew, and goes to nobody but b before and after; and where it closes if it goes to b
-reasked : (s : State) → length s.processes ≡ ranks → (a b : Rank) → a.0 < ranks → (q : Request)
+reasked : (s : State) → length s.processes ≡ ranks → (a b : Rank) → a.0 < ranks → (q : Option Request)
     → ((y : Rank) → is_same_rank y b ≡ false → asks_for y q ≡ asks_for y (request s a))
     → (x y : Rank) → asks_for y (request (with_request a q s) x) ≡ cond (same_pair a b x y) (asks_for b q) (asks_for y (request s x))
 reasked s long a b ha q other x y =
@@ -121,7 +121,7 @@ withdraw_asks : (s : State) → length s.processes ≡ ranks → (a b : Rank) �
     → (x y : Rank) → asks_for y (request (withdraw a b s) x) ≡ cond (same_pair a b x y) false (asks_for y (request s x))
 withdraw_asks s long a b ha x y =
     by_test (asks_for b (request s a))
-    (λ e. rw e (reasked s long a b ha Absent (λ y d. sym (same_ask (request s a) b y e ∙ same_rank_turned y b d)) x y))
+    (λ e. rw e (reasked s long a b ha None (λ y d. sym (same_ask (request s a) b y e ∙ same_rank_turned y b d)) x y))
     (λ e. rw e (by_test (same_pair a b x y) (λ g. rw g (of_pair (λ x y. asks_for y (request s x) ≡ false) x y e g)) (λ g. rw g)))
 
 live_of : (t : Status) → is_started t ≡ true → is_ended t ≡ false → is_live t ≡ true
@@ -234,7 +234,7 @@ module _ (s : State) (f : Facts s) where
       (λ b hb. rw (k.running, no_ask (request s r) b k.idle))
 
   -- a's call is put anew, where it goes to nobody but b before and after
-  module _ (a b : Rank) (q : Request) (other : (y : Rank) → is_same_rank y b ≡ false → asks_for y q ≡ asks_for y (request s a)) where
+  module _ (a b : Rank) (q : Option Request) (other : (y : Rank) → is_same_rank y b ≡ false → asks_for y q ≡ asks_for y (request s a)) where
     recalled : (s' : State) (c : Change) (w : Bool) → Two s a b → s'.processes ≡ (with_request a q s).processes → s'.links ≡ s.links
         → ((x y : Side) → c.own x y ≡ ask_as w x) → ((x y : Side) → c.other x y ≡ x) → asks_for b q ≡ w
         → keeps c ≡ true → c.asked (side s a b) (side s b a) ≡ true → Effect s s' c (same_pair a b)
@@ -249,7 +249,7 @@ module _ (s : State) (f : Facts s) where
   pub call_effect : (a b : Rank) → CallFits s a b → Effect s (call a b s).state calling (same_pair a b)
   unfolding call keeps
   call_effect a b k =
-      recalled a b (Posted b (location s a b)) (λ y e. same_rank_turned y b e ∙ sym (no_ask (request s a) y k.idle))
+      recalled a b (posted b (location s a b)) (λ y e. same_rank_turned y b e ∙ sym (no_ask (request s a) y k.idle))
       (call a b s).state calling true k.two refl refl (λ x y. refl) (λ x y. refl) (same_rank_self b) refl
       (rw (k.running, k.two.second_started, k.closed))
 
@@ -257,13 +257,13 @@ module _ (s : State) (f : Facts s) where
     pub route_ended_effect : Effect s (route_to_ended a b s).state withdrawing (same_pair a b)
     unfolding keeps
     route_ended_effect =
-        recalled a b Absent (λ y e. sym (same_ask (request s a) b y k.asks ∙ same_rank_turned y b e))
+        recalled a b None (λ y e. sym (same_ask (request s a) b y k.asks ∙ same_rank_turned y b e))
         (route_to_ended a b s).state withdrawing false k.two refl refl (λ x y. refl) (λ x y. refl) refl refl refl
 
     pub route_on_effect : (v : Vmid) → Effect s (route_on a b v s).state reposting (same_pair a b)
     unfolding keeps
     route_on_effect v =
-        recalled a b (Posted b v) (λ y e. sym (same_ask (request s a) b y k.asks))
+        recalled a b (posted b v) (λ y e. sym (same_ask (request s a) b y k.asks))
         (route_on a b v s).state reposting true k.two refl refl (λ x y. refl) (λ x y. refl) (same_rank_self b) refl k.asks
 
     -- where the call arrives, the line stands and both calls close

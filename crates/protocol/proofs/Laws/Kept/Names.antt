@@ -1,6 +1,6 @@
 -- Every accepted record keeps the names sound: numbers in range, each vmid drawn, the tables, and no vmid of two processes.
 -- Assumes nothing.
-use Rattle.std.specs.Prelude.{◌≡◌, refl, true, false, not, cond, ◌&&◌, List, [], ◌∷◌, ℕ, ◌+◌, ◌<◌, ◌≤◌, eqb, get_or, set}
+use Rattle.std.specs.Prelude.{◌≡◌, refl, true, false, not, cond, ◌&&◌, List, [], ◌∷◌, ℕ, ◌+◌, ◌<◌, ◌≤◌, eqb, get_or, set, Option, None}
 use Rattle.std.proofs.Math.Option.{none}
 use Rattle.std.proofs.Common.{arith, lt-ltb}
 use Rattle.base.specs.Laws.Tests.{both, both_right, chosen, first_wider, eqb_swap}
@@ -66,13 +66,12 @@ use Rattle.broker.specs.State.{
 use Rattle.protocol.specs.Life.{announced, start, end}
 use Rattle.protocol.specs.Messages.{send, take, look}
 use Rattle.protocol.specs.Migrate.{move, heed, land}
-use Rattle.broker.specs.Names.{numbers, unknown, same_vmid, is_started, is_ended, endpoint, processes_of, vmids_of, asks_for}
+use Rattle.broker.specs.Names.{numbers, unknown, same_vmid, is_started, is_ended, endpoint, processes_of, vmids_of, asks_for, posted}
 use Rattle.protocol.specs.Sound.{is_drawn, of_call, none_shared, distinct}
 use Rattle.protocol.specs.Step.{apply}
 use Rattle.broker.specs.declared.link.Connection.TheVariants.{Open}
 use Rattle.broker.specs.declared.link.Link.{Link}
 use Rattle.broker.specs.declared.process.Request.{Request}
-use Rattle.broker.specs.declared.process.Request.TheVariants.{Absent, Posted}
 use Rattle.broker.specs.declared.process.Status.{Status}
 use Rattle.broker.specs.declared.process.Status.TheVariants.{Running, Migrating, Ended}
 use Rattle.broker.specs.declared.process.Vmid.{Vmid}
@@ -92,7 +91,7 @@ names_elsewhere ls u n =
 
 module _ {s : State} (f : Shape s) (n : Names s) where
   -- a call to a rank in range, posted to a vmid that is drawn
-  names_with_request : (r : Rank) (q : Request) → r.0 < ranks → of_call is_rank (is_drawn s) q ≡ true → Names (with_request r q s)
+  names_with_request : (r : Rank) (q : Option Request) → r.0 < ranks → of_call is_rank (is_drawn s) q ≡ true → Names (with_request r q s)
   names_with_request r q h e =
       record {
         numbers_in_range_lem = n.numbers_in_range_lem;
@@ -217,7 +216,7 @@ module _ {s : State} (f : Shape s) (n : Names s) where
   -- a call that closes, if there is one
   names_withdraw : (a b : Rank) → a.0 < ranks → Names (withdraw a b s)
   names_withdraw a b ha =
-      chosen Names (asks_for b (request s a)) (with_request a Absent s) s (λ _. names_with_request a Absent ha refl) (λ _. n)
+      chosen Names (asks_for b (request s a)) (with_request a None s) s (λ _. names_with_request a None ha refl) (λ _. n)
 
 -- every accepted record keeps the names sound
 pub names_kept : (s : State) (r : Record) → Facts s → refusal s r ≡ none → Names (apply r s).state
@@ -234,7 +233,7 @@ names_kept s (Start r h) f p =
     (λ a b hb. announced_other r v s.locations long a b hb k.in_range)
 names_kept s (Call a b) f p =
     let two = (call_fits s a b p).two in
-    names_with_request f.shape f.names a (Posted b (location s a b)) two.first
+    names_with_request f.shape f.names a (posted b (location s a b)) two.first
     (both (lt-ltb b.0 ranks two.second) (as_told f.shape f.names b two.second two.second_started a two.first))
 names_kept s (Route a b) f p =
     let two = (route_fits s a b p).two in
@@ -242,10 +241,10 @@ names_kept s (Route a b) f p =
     let drawn = end_drawn f.shape f.names b two.second two.second_started in
     let joined = shape_connect a b Open f.shape in
     let told = shape_with_locations _ (long_set cells s.locations (cell a b) v f.shape.locations_long) f.shape in
-    route_cases Names a b s (names_with_request f.shape f.names a Absent two.first refl)
+    route_cases Names a b s (names_with_request f.shape f.names a None two.first refl)
     (names_withdraw (shape_withdraw a b joined) (names_withdraw joined (names_elsewhere _ _ f.names) a b two.first) b a two.second)
     (names_with_request told
-    (names_with_location f.shape f.names a b v two.first two.second two.second_started drawn) a (Posted b v) two.first
+    (names_with_location f.shape f.names a b v two.first two.second two.second_started drawn) a (posted b v) two.first
     (both (lt-ltb b.0 ranks two.second) drawn))
 names_kept s (Send a b v) f p = names_elsewhere _ _ f.names
 names_kept s (Take b a) f p = names_elsewhere _ _ f.names
