@@ -1,8 +1,6 @@
 -- Paper 01's number and values of an answer. Paper 01, "Where each step is checked"; paper 02, changes 2 and 4.
 -- Assumes nothing.
-use Rattle.std.specs.Prelude.{List, [], ◌∷◌, ◌≡◌, ℕ}
-use Rattle.answer.specs.declared.Answer.{Answer}
-use Rattle.answer.specs.declared.Answer.TheVariants.{Accepted, Refused}
+use Rattle.std.specs.Prelude.{List, [], ◌∷◌, ◌≡◌, ℕ, Result, Ok, Err}
 use Rattle.answer.specs.declared.Refusal.{Refusal}
 use Rattle.answer.specs.declared.Values.{Values}
 use Rattle.answer.specs.declared.Refusal.TheVariants.{
@@ -62,12 +60,12 @@ refusal_number NumbersSpent = 25
 refusal_number SequenceSpent = 28
 
 -- the printed number: "0 when accepted"
-abbrev pub number : Answer → ℕ
-number (Accepted v) = 0
-number (Refused n) = refusal_number n
+abbrev pub number : Result Values Refusal → ℕ
+number (Ok v) = 0
+number (Err n) = refusal_number n
 
 -- Paper 02, change 2: "Number 18 is given no more, and the contract says that no input meets it."
-unfoldable pub NeverEighteen : Answer → Type 0
+unfoldable pub NeverEighteen : Result Values Refusal → Type 0
 NeverEighteen answer = number answer ≡ 18 → ⊥
 
 -- v1, v2 and v3
@@ -78,6 +76,6 @@ abbrev pub listed : Values → List ℕ
 listed v = v.0 ∷ v.1 ∷ v.2 ∷ []
 
 -- the values of an answer: "A refusal leaves .. v1 to v3 zero."
-abbrev pub values : Answer → List ℕ
-values (Accepted v) = listed v
-values (Refused n) = 0 ∷ 0 ∷ 0 ∷ []
+abbrev pub values : Result Values Refusal → List ℕ
+values (Ok v) = listed v
+values (Err n) = 0 ∷ 0 ∷ 0 ∷ []

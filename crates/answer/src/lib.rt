@@ -1,125 +1,77 @@
 // The answer to a step. Paper 01, "Where each step is checked"; paper 02, changes 2 and 4.
 #![tactic(auto)]
 
-ghost use Rattle.std.specs.Prelude.{cond, ◌≡◌, ◌+◌, ◌<◌, ltb};
+ghost use Rattle.std.specs.Prelude.{◌≡◌};
 ghost use Rattle.answer.specs.Answer.{refusal_number, number, values, listed};
 
 use transit::{Count, Value};
 
-// Why a step is refused: the rows of the table of checks, numbers 1 to 17, 19 to 25 and 28 in this order.
-#[derive(Clone, Copy)]
+// Why a step is refused, with its number in the table of checks.
+#[derive(Clone, Copy, PartialEq, Eq)]
 pub enum Refusal {
-    Unsound,
-    UnknownKind,
-    CutShort,
-    RankRange,
-    HostRange,
-    SameRank,
-    NotStarted,
-    AlreadyStarted,
-    HasEnded,
-    IsMigrating,
-    NotMigrating,
-    Connected,
-    RequestOpen,
-    NoRequest,
-    NotConnected,
-    PeerMigrating,
-    NoNotice,
-    BacklogLeft,
-    NoBacklog,
-    NothingToDrain,
-    NothingUnread,
-    UnreadLeft,
-    Full,
-    NumbersSpent,
-    SequenceSpent,
-}
-
-#[derive(Clone, Copy)]
-pub enum Answer {
-    Accepted(Values),
-    Refused(Refusal),
+    Unsound = 1,
+    UnknownKind = 2,
+    CutShort = 3,
+    RankRange = 4,
+    HostRange = 5,
+    SameRank = 6,
+    NotStarted = 7,
+    AlreadyStarted = 8,
+    HasEnded = 9,
+    IsMigrating = 10,
+    NotMigrating = 11,
+    Connected = 12,
+    RequestOpen = 13,
+    NoRequest = 14,
+    NotConnected = 15,
+    PeerMigrating = 16,
+    NoNotice = 17,
+    BacklogLeft = 19,
+    NoBacklog = 20,
+    NothingToDrain = 21,
+    NothingUnread = 22,
+    UnreadLeft = 23,
+    Full = 24,
+    NumbersSpent = 25,
+    SequenceSpent = 28,
 }
 
 // v1, v2 and v3 of an answer.
-#[derive(Clone, Copy)]
+#[derive(Clone, Copy, PartialEq, Eq)]
 pub struct Values(pub Value, pub Value, pub Value);
+
+// What a step is answered with: its values, or why it is refused.
+pub type Answer = Result<Values, Refusal>;
 
 // A count of unread messages as it is answered and printed: its 16 bits widen here and nowhere else.
 pub fn widened(n: Count) -> Value
     ensures { result ≡ n }
 {
-    n as Value
+    Value::from(n)
 }
 
 impl Refusal {
-    // Its row in the table of checks, counted from 1 with 18, 26 and 27 left out: up to 17 it is the number.
-    fn row(self) -> u8
-        ensures { (cond (ltb result 18) result (cond (ltb result 25) (result + 1) (result + 3)) ≡ refusal_number self) × (result < 26) }
-    {
-        match self {
-            Refusal::Unsound => 1,
-            Refusal::UnknownKind => 2,
-            Refusal::CutShort => 3,
-            Refusal::RankRange => 4,
-            Refusal::HostRange => 5,
-            Refusal::SameRank => 6,
-            Refusal::NotStarted => 7,
-            Refusal::AlreadyStarted => 8,
-            Refusal::HasEnded => 9,
-            Refusal::IsMigrating => 10,
-            Refusal::NotMigrating => 11,
-            Refusal::Connected => 12,
-            Refusal::RequestOpen => 13,
-            Refusal::NoRequest => 14,
-            Refusal::NotConnected => 15,
-            Refusal::PeerMigrating => 16,
-            Refusal::NoNotice => 17,
-            Refusal::BacklogLeft => 18,
-            Refusal::NoBacklog => 19,
-            Refusal::NothingToDrain => 20,
-            Refusal::NothingUnread => 21,
-            Refusal::UnreadLeft => 22,
-            Refusal::Full => 23,
-            Refusal::NumbersSpent => 24,
-            Refusal::SequenceSpent => 25,
-        }
-    }
-
     // The number of the table of checks.
     pub fn number(self) -> u8
         ensures { result ≡ refusal_number self }
     {
-        let row = self.row();
-        if row < 18 {
-            return row;
-        }
-        if row < 25 {
-            return row + 1;
-        }
-        row + 3
+        self as u8
     }
 }
 
-impl Answer {
-    // 0 where the step was accepted, else the refusal's number.
-    pub fn number(self) -> u8
-        ensures { result ≡ number self }
-    {
-        match self {
-            Answer::Accepted(_) => 0,
-            Answer::Refused(n) => n.number(),
-        }
+// 0 where the step was accepted, else the refusal's number.
+pub fn number_of(answer: Answer) -> u8
+    ensures { result ≡ number answer }
+{
+    match answer {
+        Ok(_) => 0,
+        Err(why) => why.number(),
     }
+}
 
-    // The values of an accepted step; zeros of a refused one.
-    pub fn values(self) -> Values
-        ensures { listed result ≡ values self }
-    {
-        match self {
-            Answer::Accepted(values) => values,
-            Answer::Refused(_) => Values(0, 0, 0),
-        }
-    }
+// The values of an accepted step; zeros of a refused one.
+pub fn values_of(answer: Answer) -> Values
+    ensures { listed result ≡ values answer }
+{
+    answer.unwrap_or(Values(0, 0, 0))
 }

@@ -2,6 +2,7 @@
 // arrays, a step in place for each record of a log, and at the end the state by value.
 #![tactic(auto)]
 
+use answer::{number_of, values_of};
 use broker::state::Broker;
 use roster::ROSTER_LENGTH;
 use std::io;
@@ -26,8 +27,8 @@ fn main(rt: HostRuntime) -> io::Result<()> {
     while at < log.len() {
         let reply = step_in_place(log, at, &mut slots, &mut contents, &mut roster);
         let answer = reply.answer;
-        let values = answer.values();
-        tell(&rt, answer.number(), values.0 as u64)?;
+        let values = values_of(answer);
+        tell(&rt, number_of(answer), values.0 as u64)?;
         let next = reply.next;
         if next <= at {
             break;

@@ -7,6 +7,7 @@ ghost use Rattle.broker.specs.State.{view};
 ghost use Rattle.protocol.specs.Step.{step};
 ghost use Rattle.steps.specs.Outcome.{outcome, RefusalKeeps};
 
+use answer::{number_of, values_of};
 use broker::state::Broker;
 use std::io;
 use steps::Outcome;
@@ -40,8 +41,8 @@ fn main(rt: HostRuntime) -> io::Result<()> {
     while at < log.len() {
         let done = step_by_lending(broker, log, at);
         let answer = done.answer;
-        let values = answer.values();
-        tell(&rt, answer.number(), values.0 as u64)?;
+        let values = values_of(answer);
+        tell(&rt, number_of(answer), values.0 as u64)?;
         let next = done.next;
         if next <= at {
             break;

@@ -1,6 +1,7 @@
 // A panel maker's first program: a fresh state, a log, a step for each of its records, and what each was answered.
 #![tactic(auto)]
 
+use answer::{number_of, values_of};
 use broker::state::Broker;
 use std::io;
 use steps::step;
@@ -19,8 +20,8 @@ fn main(rt: HostRuntime) -> io::Result<()> {
     while at < log.len() {
         let done = step(broker, log, at);
         let answer = done.answer;
-        let values = answer.values();
-        tell(&rt, answer.number(), values.0 as u64)?;
+        let values = values_of(answer);
+        tell(&rt, number_of(answer), values.0 as u64)?;
         let next = done.next;
         if next <= at {
             break;

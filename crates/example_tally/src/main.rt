@@ -3,6 +3,7 @@
 
 ghost use Rattle.std.specs.Prelude.{◌≤◌, length};
 
+use answer::number_of;
 use broker::state::Broker;
 use std::io;
 use std::io::{Read, Stdin};
@@ -56,7 +57,7 @@ fn main(rt: HostRuntime) -> io::Result<()> {
     while at < end {
         let done = step(broker, &log[..end], at);
         let answer = done.answer;
-        let number = answer.number() as usize;
+        let number = number_of(answer) as usize;
         if number < NUMBERS {
             counts[number] = one_more(counts[number]);
         }

@@ -1,7 +1,9 @@
 -- The ordering claim, demand 3: one claim about a whole list of steps. Paper 01, "Lists of steps".
 -- Each part has a name under the sentence that it transcribes; the last definition is the claim. Assumes nothing.
-use Rattle.std.specs.Prelude.{◌≡◌, Bool, true, false, not, cond, ◌&&◌, ◌||◌, List, [], ◌∷◌, ◌++◌, map, ℕ, ◌<◌, ltb, get_or}
+use Rattle.std.specs.Prelude.{◌≡◌, Bool, true, false, not, cond, ◌&&◌, ◌||◌, List, [], ◌∷◌, ◌++◌, map, ℕ, ◌<◌, ltb, get_or, Result, Ok, Err}
 use Rattle.std.proofs.Math.Option.{Option, none, some}
+use Rattle.answer.specs.declared.Refusal.{Refusal}
+use Rattle.answer.specs.declared.Values.{Values}
 use Rattle.base.specs.Lists.{select, every}
 use Rattle.transit.specs.Message.{is_same_rank, place_order, ranks}
 use Rattle.transit.specs.declared.Message.{Message}
@@ -11,13 +13,10 @@ use Rattle.record.specs.Parts.{ranks_in, values_in, is, first_rank, of_first, of
 use Rattle.record.specs.Kind
 use Rattle.broker.specs.Names.{is_migrating}
 use Rattle.broker.specs.Ranks.{every_rank}
-use Rattle.record.specs.Record.{decode}
+use Rattle.record.specs.Record.{decode, Decoded}
 use Rattle.broker.specs.State.{State, fresh, status, messages}
 use Rattle.protocol.specs.Step.{Outcome, step}
-use Rattle.answer.specs.declared.Answer.{Answer}
-use Rattle.answer.specs.declared.Answer.TheVariants.{Accepted, Refused}
-use Rattle.record.specs.declared.Decoded.{Decoded}
-use Rattle.record.specs.declared.Decoded.TheVariants.{Whole, Unknown, Cut}
+use Rattle.record.specs.declared.Fault.TheVariants.{Unknown, Cut}
 use Rattle.record.specs.declared.Record.{Record}
 
 -- Lists of steps.
@@ -36,9 +35,9 @@ after s [] = s
 after s (x ∷ xs) = after (step_at s x).state xs
 
 -- "A step answered without a refusal number is accepted."
-abbrev pub is_accepted : Answer → Bool
-is_accepted (Accepted v) = true
-is_accepted (Refused n) = false
+abbrev pub is_accepted : Result Values Refusal → Bool
+is_accepted (Ok v) = true
+is_accepted (Err n) = false
 
 abbrev pub every_accepted : State → List Reading → Bool
 every_accepted s [] = true
@@ -51,11 +50,11 @@ pub record Entry : Type 0 where
   pub v3 : ℕ
 
 -- the entry of a step that answered so to what stood at its position; only a whole record is ever accepted
-abbrev pub entry_of : Answer → Decoded → List Entry
-entry_of (Accepted v) (Whole r next) = record { read = r; v1 = v.0; v3 = v.2 } ∷ []
-entry_of (Accepted v) Unknown = []
-entry_of (Accepted v) Cut = []
-entry_of (Refused n) d = []
+abbrev pub entry_of : Result Values Refusal → Decoded → List Entry
+entry_of (Ok v) (Ok (r, next)) = record { read = r; v1 = v.0; v3 = v.2 } ∷ []
+entry_of (Ok v) (Err Unknown) = []
+entry_of (Ok v) (Err Cut) = []
+entry_of (Err n) d = []
 
 -- the accepted steps of a list, in list order
 abbrev pub accepted : State → List Reading → List Entry

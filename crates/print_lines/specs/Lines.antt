@@ -1,5 +1,5 @@
 -- The lines of a printed run. Paper 01, "The printed run". Assumes nothing.
-use Rattle.std.specs.Prelude.{cond, List, [], ◌∷◌, ◌++◌, map, ℕ, zero, suc, eqb}
+use Rattle.std.specs.Prelude.{cond, List, [], ◌∷◌, ◌++◌, map, ℕ, zero, suc, eqb, Result}
 use Rattle.base.specs.Lists.{tally}
 use Rattle.transit.specs.Message.{between, picks, ranks, rank}
 use Rattle.transit.specs.declared.Message.{Message}
@@ -8,10 +8,11 @@ use Rattle.transit.specs.declared.Place.TheVariants.{SourceList, SourceChannel, 
 use Rattle.transit.specs.declared.Selection.TheVariants.{BetweenAt}
 use Rattle.print_page.specs.Text.{decimal, hex, newline, numbers, space}
 use Rattle.answer.specs.Answer.{number, values}
-use Rattle.answer.specs.declared.Answer.{Answer}
+use Rattle.answer.specs.declared.Values.{Values}
+use Rattle.answer.specs.declared.Refusal.{Refusal}
 
 -- "per record: position, kind (two hexadecimal digits, upper case), number (0 when accepted), v1, v2, v3, decimal"
-unfoldable pub record_line : ℕ → ℕ → Answer → List ℕ
+unfoldable pub record_line : ℕ → ℕ → Result Values Refusal → List ℕ
 record_line position kind a =
     decimal position ++ (space ∷ hex kind) ++ numbers (number a ∷ values a) ++ (newline ∷ [])
 

@@ -2,7 +2,6 @@
 #![tactic(auto)]
 
 ghost use Rattle.std.specs.Prelude.{◌∷◌, [], ◌+◌, ◌≤◌, length};
-ghost use Rattle.answer.specs.declared.Answer.TheVariants.{Refused};
 ghost use Rattle.print_lines.specs.Lines.{record_line, record_room, pair_line, pair_room, end_line, end_room};
 ghost use Rattle.print_page.specs.Put.{Put};
 
@@ -18,20 +17,20 @@ pub fn record_line(page: &mut [u8], used: usize, position: u64, kind: u8, answer
     ensures { Put record_room page.old used (record_line position kind answer) page.new result }
 {
     match answer {
-        Answer::Accepted(v) => {
+        Ok(v) => {
             let mut at = put_decimal(page, used, position);
             at = put_hex(page, at, kind);
             at = put_four_numbers(page, at, 0, v.0 as u64, v.1 as u64, v.2 as u64);
             put_byte(page, at, b'\n')
         }
-        Answer::Refused(why) => refused_line(page, used, position, kind, why),
+        Err(why) => refused_line(page, used, position, kind, why),
     }
 }
 
 // The same of a refusal, which has no values.
 pub fn refused_line(page: &mut [u8], used: usize, position: u64, kind: u8, why: Refusal) -> usize
     requires { used + record_room ≤ length page.old }
-    ensures { Put record_room page.old used (record_line position kind (Refused why)) page.new result }
+    ensures { Put record_room page.old used (record_line position kind (Err why)) page.new result }
 {
     let number = why.number();
     let position_end = put_decimal(page, used, position);

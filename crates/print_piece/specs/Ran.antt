@@ -1,11 +1,11 @@
 -- What a run of a piece of the input comes to, beside the page and on it. Paper 01, "The printed run". Assumes nothing.
-use Rattle.std.specs.Prelude.{true, List, [], ◌∷◌, ◌≡◌, ℕ, ◌+◌, ◌*◌, ◌≤◌, ◌<◌, length, take}
+use Rattle.std.specs.Prelude.{true, List, [], ◌∷◌, ◌≡◌, ℕ, ◌+◌, ◌*◌, ◌≤◌, ◌<◌, length, take, Err}
 use Rattle.print_lines.specs.Lines.{record_room}
 use Rattle.answer.specs.Answer.{NeverEighteen}
 use Rattle.record.specs.Record.{decode}
 use Rattle.protocol.specs.Sound.{sound}
 use Rattle.broker.specs.State.{State}
-use Rattle.record.specs.declared.Decoded.TheVariants.{Unknown, Cut}
+use Rattle.record.specs.declared.Fault.TheVariants.{Unknown, Cut}
 use Rattle.print_run.specs.Printed.{lines_of}
 use Rattle.print_run.specs.Run.{Answered, Came}
 use Rattle.print_run.specs.Wholes.{wholes}
@@ -27,8 +27,8 @@ NeverEighteenIn (a ∷ rest) = NeverEighteen a.answer × NeverEighteenIn rest
 -- why it stops: the page has no room for another line, or no whole record stands there
 abbrev pub Stops : Stop → List ℕ → ℕ → ℕ → ℕ → Type 0
 Stops PageFull piece at used room = room < used + record_room
-Stops KindUnknown piece at used room = decode piece at ≡ Unknown
-Stops RecordCut piece at used room = decode piece at ≡ Cut
+Stops KindUnknown piece at used room = decode piece at ≡ Err Unknown
+Stops RecordCut piece at used room = decode piece at ≡ Err Cut
 
 -- some whole records of a piece are run, and a page of so many bytes shows the lines of their answers; where the state was sound, the
 -- answers are those of the definition

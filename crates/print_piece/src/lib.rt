@@ -6,7 +6,7 @@ ghost use Rattle.desk.specs.Desk.{desk_of, IsDesk};
 ghost use Rattle.print_piece.specs.Ran.{RanSome, Stops};
 
 use print_lines::record_line;
-use record::Decoded;
+use record::Fault;
 use record::decode::decode;
 use roster::Roster;
 use settle::settle;
@@ -64,16 +64,15 @@ pub fn run_piece(
                 stop: Stop::PageFull,
             };
         }
-        let decoded = decode(piece, at);
-        match decoded {
-            Decoded::Whole(read, next) => {
+        match decode(piece, at) {
+            Ok((read, next)) => {
                 let kind = piece[at];
                 let answer = settle(read, slots, contents, roster);
                 used = record_line(page, used, base + at as u64, kind, answer);
                 at = next;
                 steps += 1;
             }
-            Decoded::Unknown => {
+            Err(Fault::Unknown) => {
                 return Stopped {
                     at: at,
                     used: used,
@@ -81,7 +80,7 @@ pub fn run_piece(
                     stop: Stop::KindUnknown,
                 };
             }
-            Decoded::Cut => {
+            Err(Fault::Cut) => {
                 return Stopped {
                     at: at,
                     used: used,

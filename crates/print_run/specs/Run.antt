@@ -1,16 +1,17 @@
 -- A run of a log: step after step, each from the state and the position that the one before left. Paper 01, "The printed run".
 -- Assumes nothing.
-use Rattle.std.specs.Prelude.{Bool, cond, ◌&&◌, List, [], ◌∷◌, ◌++◌, ℕ, zero, suc, leb, ltb, length, get_or}
+use Rattle.std.specs.Prelude.{Bool, cond, ◌&&◌, List, [], ◌∷◌, ◌++◌, ℕ, zero, suc, leb, ltb, length, get_or, Result}
 use Rattle.answer.specs.Answer.{number}
+use Rattle.answer.specs.declared.Values.{Values}
+use Rattle.answer.specs.declared.Refusal.{Refusal}
 use Rattle.broker.specs.State.{State}
 use Rattle.protocol.specs.Step.{Outcome, step}
-use Rattle.answer.specs.declared.Answer.{Answer}
 
 -- a step of a run: its position in the input, the kind that stands there, and the answer
 pub record Answered : Type 0 where
   pub at : ℕ
   pub kind : ℕ
-  pub answer : Answer
+  pub answer : Result Values Refusal
 
 -- what a run has come to: the state, the position, and its steps in order
 pub record Came : Type 0 where
@@ -31,7 +32,7 @@ abbrev pub answered : List ℕ → ℕ → Outcome → Answered
 answered log at o = record { at = at; kind = get_or log at 0; answer = o.answer }
 
 -- "The position passes the record, except at 1, 2 and 3, where it stays."
-abbrev pub stops : Answer → Bool
+abbrev pub stops : Result Values Refusal → Bool
 stops a = leb 1 (number a) && leb (number a) 3
 
 -- "It stops at the log's end .. or after a 2 or 3": a run of so many steps at most

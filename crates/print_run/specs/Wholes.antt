@@ -1,33 +1,31 @@
 -- A run in one pass: the whole records of a log, and the step that ends it. Positions count from the input's start, and the log's first
 -- byte stands at `base` there. Paper 01, "The printed run". Assumes nothing.
-use Rattle.std.specs.Prelude.{Bool, true, false, cond, List, [], ◌∷◌, ◌++◌, ℕ, zero, suc, ◌+◌, ltb, length, get_or}
-use Rattle.record.specs.Record.{is_kind, decode}
+use Rattle.std.specs.Prelude.{Bool, true, false, cond, List, [], ◌∷◌, ◌++◌, ℕ, zero, suc, ◌+◌, ltb, length, get_or, Result, Ok, Err}
+use Rattle.record.specs.Record.{is_kind, decode, Decoded}
 use Rattle.broker.specs.State.{State}
 use Rattle.protocol.specs.Step.{settle}
-use Rattle.answer.specs.declared.Answer.{Answer}
-use Rattle.answer.specs.declared.Answer.TheVariants.{Refused}
 use Rattle.answer.specs.declared.Refusal.{Refusal}
+use Rattle.answer.specs.declared.Values.{Values}
 use Rattle.answer.specs.declared.Refusal.TheVariants.{UnknownKind, CutShort}
-use Rattle.record.specs.declared.Decoded.{Decoded}
-use Rattle.record.specs.declared.Decoded.TheVariants.{Whole, Unknown, Cut}
+use Rattle.record.specs.declared.Fault.TheVariants.{Unknown, Cut}
 use Rattle.print_run.specs.Printed.{text_of}
 use Rattle.print_run.specs.Run.{Answered, Came, standing, behind}
 
 -- a whole record stands at a position
 abbrev pub is_whole : Decoded → Bool
-is_whole (Whole r next) = true
-is_whole Unknown = false
-is_whole Cut = false
+is_whole (Ok (r, next)) = true
+is_whole (Err Unknown) = false
+is_whole (Err Cut) = false
 
 -- the step at a position of a log, with its answer
-abbrev pub answered_at : ℕ → List ℕ → ℕ → Answer → Answered
+abbrev pub answered_at : ℕ → List ℕ → ℕ → Result Values Refusal → Answered
 answered_at base log at a = record { at = base + at; kind = get_or log at 0; answer = a }
 
 -- why a run ends where no whole record stands
 abbrev pub reason : Decoded → Refusal
-reason (Whole r next) = CutShort
-reason Unknown = UnknownKind
-reason Cut = CutShort
+reason (Ok (r, next)) = CutShort
+reason (Err Unknown) = UnknownKind
+reason (Err Cut) = CutShort
 
 -- the same by the kind that stands there
 abbrev pub reason_of : ℕ → Refusal
@@ -36,7 +34,7 @@ reason_of kind = cond (is_kind kind) CutShort UnknownKind
 -- "It stops at the log's end without a line for it, or after a 2 or 3": the step that ends a run, where there is one
 unfoldable pub closing : ℕ → List ℕ → ℕ → List Answered
 closing base log at =
-    cond (ltb at (length log)) (answered_at base log at (Refused (reason (decode log at))) ∷ []) []
+    cond (ltb at (length log)) (answered_at base log at (Err (reason (decode log at))) ∷ []) []
 
 -- what whole records of a log have come to, as a run that ends there
 abbrev pub ended : ℕ → List ℕ → Came → Came
@@ -45,10 +43,10 @@ ended base log c =
 
 -- a whole record, and what follows it; nothing where none stands
 abbrev pub on_read : ℕ → State → List ℕ → ℕ → (State → ℕ → Came) → Decoded → Came
-on_read base s log at more (Whole r next) =
+on_read base s log at more (Ok (r, next)) =
     behind (answered_at base log at (settle r s).answer ∷ []) (more (settle r s).state next)
-on_read base s log at more Unknown = standing s at
-on_read base s log at more Cut = standing s at
+on_read base s log at more (Err Unknown) = standing s at
+on_read base s log at more (Err Cut) = standing s at
 
 -- the whole records from a position on, so many at most
 unfoldable pub wholes : ℕ → ℕ → State → List ℕ → ℕ → Came

@@ -1,11 +1,10 @@
 -- A turn of a program that reads its input through a buffer: what it runs of what is held, what the page shows, and what it leaves.
 -- Paper 01, "The printed run". Assumes nothing.
-use Rattle.std.specs.Prelude.{Bool, true, false, cond, List, [], ◌++◌, ◌≡◌, ℕ, ◌+◌, ◌^◌, ◌≤◌, ◌<◌, length, take, drop}
-use Rattle.record.specs.Record.{decode}
+use Rattle.std.specs.Prelude.{Bool, true, false, cond, List, [], ◌++◌, ◌≡◌, ℕ, ◌+◌, ◌^◌, ◌≤◌, ◌<◌, length, take, drop, Err}
+use Rattle.record.specs.Record.{decode, Decoded}
 use Rattle.protocol.specs.Sound.{sound}
 use Rattle.broker.specs.State.{State}
-use Rattle.record.specs.declared.Decoded.{Decoded}
-use Rattle.record.specs.declared.Decoded.TheVariants.{Unknown, Cut}
+use Rattle.record.specs.declared.Fault.TheVariants.{Unknown, Cut}
 use Rattle.print_piece.specs.Ran.{Ran}
 use Rattle.print_run.specs.Printed.{lines_of, last_lines}
 use Rattle.print_run.specs.Run.{Answered}
@@ -58,14 +57,14 @@ pub record Shows (s : State) (held : List ℕ) (base : ℕ) (state : State) (hel
 
 -- a run is over where no whole record stands: at the input's end, or at a kind that is none
 abbrev pub Over : Bool → Decoded → Type 0
-Over done d = (is_whole d ≡ false) × (done ≡ false → d ≡ Unknown)
+Over done d = (is_whole d ≡ false) × (done ≡ false → d ≡ Err Unknown)
 
 -- why a program does what it does next: another turn has something to write and comes further on; input is read short of its end, and
 -- behind less than a record; a run ends where it is over; and from `farthest` on, and nowhere before, the input is too long, and nothing
 -- is run
 abbrev pub Because : Next → ℕ → Bool → List ℕ → Turned → Type 0
 Because Again base done held r = (base < farthest) × (0 < r.used) × (base < r.base)
-Because Read base done held r = (base < farthest) × (done ≡ false) × (decode held 0 ≡ Cut) × (r.held < longest)
+Because Read base done held r = (base < farthest) × (done ≡ false) × (decode held 0 ≡ Err Cut) × (r.held < longest)
 Because End base done held r = (base < farthest) × Over done (decode held 0)
 Because TooLong base done held r = (farthest ≤ base) × (r.base ≡ base) × (r.used ≡ 0)
 

@@ -1,6 +1,7 @@
 -- What the contracts of the entries say alike. Assumes nothing.
-use Rattle.std.specs.Prelude.{Bool, true, false, List, [], ◌∷◌, ◌++◌, ◌≡◌, ℕ, ◌+◌, ◌*◌, ◌<◌, ◌≤◌, length, take, drop}
-use Rattle.answer.specs.declared.Answer.{Answer}
+use Rattle.std.specs.Prelude.{Bool, true, false, List, [], ◌∷◌, ◌++◌, ◌≡◌, ℕ, ◌+◌, ◌*◌, ◌<◌, ◌≤◌, length, take, drop, Result, Err}
+use Rattle.answer.specs.declared.Refusal.{Refusal}
+use Rattle.answer.specs.declared.Values.{Values}
 use Rattle.broker.specs.State.{State}
 use Rattle.generator.specs.declared.Made.{Made}
 use Rattle.generator.specs.declared.Made.TheVariants.{Written, SeedZero, TooShort}
@@ -13,15 +14,15 @@ use Rattle.print_turn.specs.declared.Turned.{Turned}
 use Rattle.protocol.specs.Sound.{sound}
 use Rattle.protocol.specs.Step.{Outcome, step}
 use Rattle.record.specs.Record.{decode}
-use Rattle.record.specs.declared.Decoded.TheVariants.{Unknown, Cut}
+use Rattle.record.specs.declared.Fault.TheVariants.{Unknown, Cut}
 
 -- "ties the answer, next position and whole state afterwards to the step definitions, refusals too, by equality"
-abbrev pub ExactStep : State → List ℕ → ℕ → Answer → ℕ → State → Type 0
+abbrev pub ExactStep : State → List ℕ → ℕ → Result Values Refusal → ℕ → State → Type 0
 ExactStep s log at answer next state =
     ◌≡◌ {A = Outcome} (record { answer = answer; next = next; state = state }) (step s log at)
 
 -- each answer of a run's steps is such
-abbrev pub EachAnswer : (Answer → Type 0) → List Answered → Type 0
+abbrev pub EachAnswer : (Result Values Refusal → Type 0) → List Answered → Type 0
 EachAnswer P [] = Unit {0}
 EachAnswer P (a ∷ rest) = P a.answer × EachAnswer P rest
 
@@ -51,9 +52,9 @@ pub record TurnOfARun
   -- another turn has something to write and comes further on
   pub again : r.next ≡ Again → (0 < r.used) × (base < r.base)
   -- input is read short of its end, and behind less than a record
-  pub reads : r.next ≡ Read → (done ≡ false) × (decode held' 0 ≡ Cut) × (r.held < 7)
+  pub reads : r.next ≡ Read → (done ≡ false) × (decode held' 0 ≡ Err Cut) × (r.held < 7)
   -- a run ends where no whole record stands: at the input's end, or at a kind that is none
-  pub ends : r.next ≡ End → (is_whole (decode held' 0) ≡ false) × (done ≡ false → decode held' 0 ≡ Unknown)
+  pub ends : r.next ≡ End → (is_whole (decode held' 0) ≡ false) × (done ≡ false → decode held' 0 ≡ Err Unknown)
   -- the input is too long from position 2^63 on, and nowhere else, and there nothing is run or written
   pub too_long : r.next ≡ TooLong → 9223372036854775808 ≤ base
   pub nothing_further : 9223372036854775808 ≤ base → (r.next ≡ TooLong) × (r.base ≡ base) × (r.used ≡ 0)

@@ -31,6 +31,8 @@ use Rattle.std.specs.Prelude.{
   get_or,
   drop,
   replicate,
+  Ok,
+  Err,
 }
 use Rattle.std.proofs.Math.Option.{Option, none, some}
 use Rattle.std.proofs.Common.{sym, ap, ◌∙◌}
@@ -38,7 +40,6 @@ use Prim.Native.String.{String}
 use Rattle.std.proofs.Math.Numerals.{unary_clauses}
 use Rattle.std.proofs.Math.ListN as ListN
 use Rattle.answer.specs.Answer.{refusal_number, number, values, NeverEighteen}
-use Rattle.answer.specs.declared.Answer.TheVariants.{Accepted, Refused}
 use Rattle.answer.specs.declared.Refusal.{Refusal}
 use Rattle.answer.specs.declared.Refusal.TheVariants.{Unsound, UnknownKind, CutShort}
 use Rattle.base.specs.Lists.{every, select, tally, up_from}
@@ -128,7 +129,7 @@ use Rattle.replay_stage.specs.declared.Then.TheVariants as Then
 use Rattle.record.specs.Laws.Record.{at_end_lem, no_kind, cut_short, whole, value_back}
 use Rattle.record.specs.Parts.{is}
 use Rattle.record.specs.Record.{is_kind, body_length, record_of, decode, value_of}
-use Rattle.record.specs.declared.Decoded.TheVariants.{Whole, Unknown}
+use Rattle.record.specs.declared.Fault.TheVariants.{Unknown}
 use Rattle.record.specs.declared.Record.{Record}
 use Rattle.record.specs.declared.Record.TheVariants.{Take, Move, Look}
 use Rattle.transit.specs.Message.{ranks, message, letter, is_same_rank, to, place_order}
@@ -182,25 +183,25 @@ limits_of_a_made_up_pass = (refl, refl, refl)
 -- A step of any state, at any position of any log.
 module _ (s : State) (log : List ℕ) (at : ℕ) where
   -- "1: the lent state is unsound"
-  pub unsound_is_1 : sound s ≡ false → step s log at ≡ record { answer = Refused Unsound; next = at; state = s }
+  pub unsound_is_1 : sound s ≡ false → step s log at ≡ record { answer = Err Unsound; next = at; state = s }
   unsound_is_1 = step_of_unsound s log at
 
   module _ (ok : sound s ≡ true) where
     -- "in a sound state at the log's end 3 is given, and no kind is read"
-    pub end_is_3 : length log ≤ at → step s log at ≡ record { answer = Refused CutShort; next = at; state = s }
+    pub end_is_3 : length log ≤ at → step s log at ≡ record { answer = Err CutShort; next = at; state = s }
     unfolding step_sound
     end_is_3 h = rw (step_of_sound s log at ok, at_end_lem log at h)
 
     -- "2: kind is not 01 to 0C"
     pub no_kind_is_2 : at < length log → (leb 1 (get_or log at 0) && leb (get_or log at 0) 12) ≡ false →
-        step s log at ≡ record { answer = Refused UnknownKind; next = at; state = s }
+        step s log at ≡ record { answer = Err UnknownKind; next = at; state = s }
     unfolding step_sound
     no_kind_is_2 h k = rw (step_of_sound s log at ok, no_kind log at h k)
 
     module _ (inside : at < length log) (known : (leb 1 (get_or log at 0) && leb (get_or log at 0) 12) ≡ true) where
       -- "3: .. body cut short"
       pub cut_is_3 : length log < at + 1 + body_length (get_or log at 0) →
-          step s log at ≡ record { answer = Refused CutShort; next = at; state = s }
+          step s log at ≡ record { answer = Err CutShort; next = at; state = s }
       unfolding step_sound
       cut_is_3 h = rw (step_of_sound s log at ok, cut_short log at inside known h)
 
@@ -212,7 +213,7 @@ module _ (s : State) (log : List ℕ) (at : ℕ) where
         pub no_row_accepts : every (λ (c : Check). not (c.given s read)) checks ≡ true →
             step s log at ≡
             record {
-              answer = Accepted (apply read s).values;
+              answer = Ok (apply read s).values;
               next = at + 1 + body_length (get_or log at 0);
               state = (apply read s).state;
             }
@@ -226,7 +227,7 @@ module _ (s : State) (log : List ℕ) (at : ℕ) where
         pub first_row_refuses : (before later : List Check) (row : Check) → checks ≡ before ++ row ∷ later →
             every (λ (c : Check). not (c.given s read)) before ≡ true → row.given s read ≡ true →
             step s log at ≡
-            record { answer = Refused row.refusal; next = at + 1 + body_length (get_or log at 0); state = s }
+            record { answer = Err row.refusal; next = at + 1 + body_length (get_or log at 0); state = s }
         unfolding step_sound settle refusal
         first_row_refuses before later row stands passed applies =
             let given = first_is_given checks s read row.refusal
@@ -251,7 +252,7 @@ module _ (s : State) (log : List ℕ) (at : ℕ) where
       (f.before, f.row, f.after, f.stands, none_applied s r f.before f.passed, f.applies, f.gives)
 
   -- Demand 1: "A refusal leaves the state lent for a step unchanged, v1 to v3 zero."
-  pub refusal_keeps_the_state : (n : Refusal) → (step s log at).answer ≡ Refused n →
+  pub refusal_keeps_the_state : (n : Refusal) → (step s log at).answer ≡ Err n →
       ((step s log at).state ≡ s) × (values (step s log at).answer ≡ 0 ∷ 0 ∷ 0 ∷ [])
   refusal_keeps_the_state n e = let kept = step_refused s log at n e in (kept.state_kept, kept.zeros)
 
@@ -338,9 +339,9 @@ pub restart : (s : State) (r : Rank) (v : Vmid) → sound s ≡ true → r.0 < 1
     (Names.same_vmid v (next_vmid s v.0) ≡ false) ×
     (Names.is_open_request (request s r) ≡ false → drawn_on s v.0 < 65535 →
     (refusal s (Move r v.0) ≡ none) ×
-    ((log : List ℕ) (at next : ℕ) → decode log at ≡ Whole (Move r v.0) next →
+    ((log : List ℕ) (at next : ℕ) → decode log at ≡ Ok (Move r v.0, next) →
     step s log at ≡
-    record { answer = Accepted (Migrate.move r v.0 s).values; next = next; state = (Migrate.move r v.0 s).state }))
+    record { answer = Ok (Migrate.move r v.0 s).values; next = next; state = (Migrate.move r v.0 s).state }))
 restart s r v ok in_range runs = (
   restart_draws s r v ok in_range runs,
   restart_apart s r v ok in_range runs,
@@ -668,7 +669,7 @@ module _ {read written : List ℕ} {s : State} {base : ℕ} {held : List ℕ} {d
     last_turn_keeps_the_order = leaves (turn_runs (course_runs course) shows)
 
     -- With the last turn all that is written is the printed run of all that was read, whatever follows it.
-    pub program_prints_the_run : r.next ≡ End → is_whole (decode held' 0) ≡ false → (done ≡ false → decode held' 0 ≡ Unknown) →
+    pub program_prints_the_run : r.next ≡ End → is_whole (decode held' 0) ≡ false → (done ≡ false → decode held' 0 ≡ Err Unknown) →
         (more : List ℕ) → (done ≡ true → more ≡ []) → written ++ ListN.take r.used page ≡ printed fresh (read ++ more)
     program_prints_the_run e whole unknown = course_ends course shows e (whole, unknown)
 

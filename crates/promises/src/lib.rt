@@ -3,7 +3,6 @@
 
 ghost use Rattle.std.specs.Prelude.{true, None, List, [], ◌≡◌, ◌+◌, ◌^◌, ◌<◌, ◌≤◌, length, take, replicate};
 ghost use Rattle.answer.specs.Answer.{number, NeverEighteen};
-ghost use Rattle.answer.specs.declared.Answer.TheVariants.{Refused};
 ghost use Rattle.answer.specs.declared.Refusal.{Refusal};
 ghost use Rattle.broker.specs.State.{fresh, view};
 ghost use Rattle.broker.specs.declared.link.Backlog.TheVariants.{Clear};
@@ -18,7 +17,7 @@ ghost use Rattle.protocol.specs.Sound.{sound};
 ghost use Rattle.protocol.specs.Step.{step};
 ghost use Rattle.promises.specs.Entries.{ExactStep, EachAnswer, Makes, TurnOfARun};
 ghost use Rattle.record.specs.Record.{decode};
-ghost use Rattle.record.specs.declared.Decoded.TheVariants.{Unknown, Cut};
+ghost use Rattle.record.specs.declared.Fault.TheVariants.{Unknown, Cut};
 ghost use Rattle.roster.specs.Roster.{Whole};
 ghost use Rattle.steps.specs.Outcome.{outcome, RefusalKeeps};
 ghost use Rattle.transit.specs.Columns.{slots_length, contents_length};
@@ -51,7 +50,7 @@ pub fn fresh_desk() -> Broker
 // Demands 1 and 2, by value: of any state, any log and any position. A refusal gives back the very state, its unused message slots too.
 pub fn step_of_a_state(broker: Broker, log: &[u8], at: usize) -> Outcome
     ensures exact { ExactStep (view broker) log.now at result.answer result.next (view result.broker) }
-    ensures refused_unchanged { (n : Refusal) → result.answer ≡ Refused n → result.broker ≡ broker }
+    ensures refused_unchanged { (n : Refusal) → result.answer ≡ Err n → result.broker ≡ broker }
     ensures never_eighteen { number result.answer ≡ 18 → ⊥ }
 {
     step(broker, log, at)
@@ -74,7 +73,7 @@ fn step_by_lending(mut broker: Broker, log: &[u8], at: usize) -> Outcome
 // The same of a state that is lent: "A refusal leaves the state lent for a step unchanged".
 pub fn step_of_a_lent_state(broker: Broker, log: &[u8], at: usize) -> Outcome
     ensures exact { ExactStep (view broker) log.now at result.answer result.next (view result.broker) }
-    ensures refused_unchanged { (n : Refusal) → result.answer ≡ Refused n → result.broker ≡ broker }
+    ensures refused_unchanged { (n : Refusal) → result.answer ≡ Err n → result.broker ≡ broker }
     ensures never_eighteen { number result.answer ≡ 18 → ⊥ }
 {
     step_by_lending(broker, log, at)
@@ -169,8 +168,8 @@ pub fn piece_of_a_run(
     ensures inside { (result.at ≤ length piece.now) × (result.used ≤ length page.new) }
     ensures room { length page.new ≡ length page.old }
     ensures page_full { result.stop ≡ PageFull → length page.old < result.used + 108 }
-    ensures kind_unknown { result.stop ≡ KindUnknown → decode piece.now result.at ≡ Unknown }
-    ensures record_cut { result.stop ≡ RecordCut → decode piece.now result.at ≡ Cut }
+    ensures kind_unknown { result.stop ≡ KindUnknown → decode piece.now result.at ≡ Err Unknown }
+    ensures record_cut { result.stop ≡ RecordCut → decode piece.now result.at ≡ Err Cut }
 {
     run_piece(piece, base, page, slots, contents, roster)
 }

@@ -1,19 +1,19 @@
 -- "Edges to prove" of paper 01, cases A to J: one table of runs from the fresh state, with what each step must answer and what must
 -- hold at the end. That each case of the table is true is `Laws/Edges`. Assumes nothing.
-use Rattle.std.specs.Prelude.{◌≡◌, Bool, true, false, not, ◌&&◌, List, [], ◌∷◌, ◌++◌, ℕ, eqb}
+use Rattle.std.specs.Prelude.{◌≡◌, Bool, true, false, not, ◌&&◌, List, [], ◌∷◌, ◌++◌, ℕ, eqb, Result, Ok, Err}
 use Rattle.answer.specs.Answer.{number}
+use Rattle.answer.specs.declared.Values.{Values}
+use Rattle.answer.specs.declared.Refusal.{Refusal}
 use Rattle.record.specs.Kind
 use Rattle.broker.specs.Names.{is_open_request, is_running, is_migrating, is_open, is_marked}
 use Rattle.transit.specs.Message.{rank}
 use Rattle.broker.specs.State.{State, fresh, status, request, connection, backlog}
 use Rattle.protocol.specs.Step.{Outcome, step}
-use Rattle.answer.specs.declared.Answer.{Answer}
-use Rattle.answer.specs.declared.Answer.TheVariants.{Accepted, Refused}
 
 -- a record that is a whole log, and the test that its step's answer must pass
 pub record Try : Type 0 where
   pub log : List ℕ
-  pub fits : Answer → Bool
+  pub fits : Result Values Refusal → Bool
 
 abbrev pub accepts : List ℕ → Try
 accepts log = record { log = log; fits = λ a. eqb (number a) 0 }
@@ -22,9 +22,9 @@ abbrev pub refuses : List ℕ → ℕ → Try
 refuses log n = record { log = log; fits = λ a. eqb (number a) n }
 
 -- accepted, with these values
-abbrev pub gives : ℕ → ℕ → ℕ → Answer → Bool
-gives v1 v2 v3 (Accepted w) = eqb w.0 v1 && eqb w.1 v2 && eqb w.2 v3
-gives v1 v2 v3 (Refused n) = false
+abbrev pub gives : ℕ → ℕ → ℕ → Result Values Refusal → Bool
+gives v1 v2 v3 (Ok w) = eqb w.0 v1 && eqb w.1 v2 && eqb w.2 v3
+gives v1 v2 v3 (Err n) = false
 
 abbrev pub answers : List ℕ → ℕ → ℕ → ℕ → Try
 answers log v1 v2 v3 = record { log = log; fits = gives v1 v2 v3 }

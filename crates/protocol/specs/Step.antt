@@ -1,6 +1,6 @@
 -- A step: the record at a position of a log, its checks, what it does, and where the next one stands. Paper 01, "The step log" and
 -- "Where each step is checked". Assumes nothing.
-use Rattle.std.specs.Prelude.{cond, List, ℕ}
+use Rattle.std.specs.Prelude.{cond, List, ℕ, Result, Ok, Err}
 use Rattle.std.proofs.Math.Option.{Option, none, some}
 use Rattle.protocol.specs.Checks.{refusal}
 use Rattle.protocol.specs.Connect.{call, route, part}
@@ -8,15 +8,13 @@ use Rattle.protocol.specs.Done.{Done}
 use Rattle.protocol.specs.Life.{start, end}
 use Rattle.protocol.specs.Messages.{send, take, look}
 use Rattle.protocol.specs.Migrate.{move, heed, drain, land}
-use Rattle.record.specs.Record.{decode}
+use Rattle.record.specs.Record.{decode, Decoded}
+use Rattle.record.specs.Refused.{refusal_of}
 use Rattle.protocol.specs.Sound.{sound}
 use Rattle.broker.specs.State.{State}
-use Rattle.answer.specs.declared.Answer.{Answer}
-use Rattle.answer.specs.declared.Answer.TheVariants.{Accepted, Refused}
 use Rattle.answer.specs.declared.Refusal.{Refusal}
-use Rattle.answer.specs.declared.Refusal.TheVariants.{Unsound, UnknownKind, CutShort}
-use Rattle.record.specs.declared.Decoded.{Decoded}
-use Rattle.record.specs.declared.Decoded.TheVariants.{Whole, Unknown, Cut}
+use Rattle.answer.specs.declared.Values.{Values}
+use Rattle.answer.specs.declared.Refusal.TheVariants.{Unsound}
 use Rattle.record.specs.declared.Record.{Record}
 use Rattle.record.specs.declared.Record.TheVariants.{Start, Call, Route, Send, Take, Move, Heed, Drain, Land, Part, End, Look}
 
@@ -37,13 +35,13 @@ apply (Look r) s = look r s
 
 -- what a record that was read whole comes to: its answer, and the state afterwards
 pub record Settlement : Type 0 where
-  pub answer : Answer
+  pub answer : Result Values Refusal
   pub state : State
 
 -- "A refusal leaves the state lent for a step unchanged, v1 to v3 zero."
 abbrev pub on_refusal : Option Refusal → Done → State → Settlement
-on_refusal (some n) d s = record { answer = Refused n; state = s }
-on_refusal none d s = record { answer = Accepted d.values; state = d.state }
+on_refusal (some n) d s = record { answer = Err n; state = s }
+on_refusal none d s = record { answer = Ok d.values; state = d.state }
 
 -- by the first check that applies
 unfoldable pub settle : Record → State → Settlement
@@ -51,19 +49,18 @@ settle r s = on_refusal (refusal s r) (apply r s) s
 
 -- all of a step's outcome: its answer, the next position, and the state afterwards
 pub record Outcome : Type 0 where
-  pub answer : Answer
+  pub answer : Result Values Refusal
   pub next : ℕ
   pub state : State
 
 abbrev pub refused : Refusal → ℕ → State → Outcome
-refused n next s = record { answer = Refused n; next = next; state = s }
+refused n next s = record { answer = Err n; next = next; state = s }
 
 -- "The position passes the record, except at 1, 2 and 3, where it stays."
 abbrev pub on_decoded : ℕ → State → Decoded → Outcome
-on_decoded at s (Whole r next) =
+on_decoded at s (Ok (r, next)) =
     record { answer = (settle r s).answer; next = next; state = (settle r s).state }
-on_decoded at s Unknown = refused UnknownKind at s
-on_decoded at s Cut = refused CutShort at s
+on_decoded at s (Err fault) = refused (refusal_of fault) at s
 
 -- a step of a sound state
 unfoldable pub step_sound : State → List ℕ → ℕ → Outcome

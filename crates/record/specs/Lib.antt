@@ -3,4 +3,5 @@ pub mod Kind
 pub mod Laws
 pub mod Parts
 pub mod Record
+pub mod Refused
 pub mod Worked

@@ -1,10 +1,32 @@
 -- The table of kinds, and the record at a position of a log. Paper 01, "The step log".
 -- Assumes nothing.
-use Rattle.std.specs.Prelude.{Bool, cond, ◌&&◌, List, [], ◌∷◌, map, ℕ, ◌+◌, ◌*◌, ◌/◌, ◌%◌, leb, ltb, length, get_or, take, drop}
+use Rattle.std.specs.Prelude.{
+  Bool,
+  cond,
+  ◌&&◌,
+  List,
+  [],
+  ◌∷◌,
+  map,
+  ℕ,
+  ◌+◌,
+  ◌*◌,
+  ◌/◌,
+  ◌%◌,
+  leb,
+  ltb,
+  length,
+  get_or,
+  take,
+  drop,
+  Result,
+  Ok,
+  Err,
+}
 use Rattle.record.specs.Kind.{Field, rank_byte, host_byte, value_bytes, field_length, fields_length}
 use Rattle.transit.specs.Message.{rank}
-use Rattle.record.specs.declared.Decoded.{Decoded}
-use Rattle.record.specs.declared.Decoded.TheVariants.{Whole, Unknown, Cut}
+use Rattle.record.specs.declared.Fault.{Fault}
+use Rattle.record.specs.declared.Fault.TheVariants.{Unknown, Cut}
 use Rattle.record.specs.declared.Record.{Record}
 use Rattle.record.specs.declared.Record.TheVariants.{Start, Call, Route, Send, Take, Move, Heed, Drain, Land, Part, End, Look}
 
@@ -88,13 +110,17 @@ record_of k bytes = (get_or (no_row ∷ table) k no_row).make (λ n. get_or (num
 abbrev pub body_at : List ℕ → ℕ → List ℕ
 body_at log at = take (body_length (get_or log at 0)) (drop (at + 1) log)
 
+-- what stands at a position: a whole record and the position after it, or why none does
+abbrev pub Decoded : Type 0
+Decoded = Result (Record × ℕ) Fault
+
 -- "position at or past the log's end" is cut and "no kind is read"; then "kind is not 01 to 0C"; then "body cut short"
 unfoldable pub decode : List ℕ → ℕ → Decoded
 decode log at =
     cond (ltb at (length log))
     (cond (is_kind (get_or log at 0))
     (cond (leb (at + 1 + body_length (get_or log at 0)) (length log))
-    (Whole (record_of (get_or log at 0) (body_at log at)) (at + 1 + body_length (get_or log at 0)))
-    Cut)
-    Unknown)
-    Cut
+    (Ok (record_of (get_or log at 0) (body_at log at), at + 1 + body_length (get_or log at 0)))
+    (Err Cut))
+    (Err Unknown))
+    (Err Cut)

@@ -3,7 +3,7 @@ ghost use Rattle.std.specs.Prelude.{true, ◌≡◌, ◌+◌, ◌<◌, ◌^◌, 
 ghost use Rattle.record.specs.Kind.{value_bytes};
 ghost use Rattle.record.specs.Record.{is_kind, body_length, number_at, record_of, decode};
 
-use crate::{Decoded, Record};
+use crate::{Fault, Record};
 use transit::{Rank, Value};
 
 // How many kinds there are: 01 to 0C.
@@ -73,22 +73,22 @@ fn record_of(kind: u8, body: &[u8]) -> Record
 }
 
 // What stands at a position: a whole record, a kind that is none, or the log's end or a body cut short.
-pub fn decode(log: &[u8], at: usize) -> Decoded
+pub fn decode(log: &[u8], at: usize) -> Result<(Record, usize), Fault>
     ensures { result ≡ decode log.now at }
 {
     let end = log.len();
     if end <= at {
-        return Decoded::Cut;
+        return Err(Fault::Cut);
     }
     let kind = log[at];
     if !is_kind(kind) {
-        return Decoded::Unknown;
+        return Err(Fault::Unknown);
     }
     let body = at + 1;
     let long = body_length(kind);
     if end - body < long {
-        return Decoded::Cut;
+        return Err(Fault::Cut);
     }
     let next = body + long;
-    Decoded::Whole(record_of(kind, &log[body..next]), next)
+    Ok((record_of(kind, &log[body..next]), next))
 }

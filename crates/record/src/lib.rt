@@ -1,6 +1,10 @@
 // The records of the step log. Paper 01, "The step log".
 #![tactic(auto)]
 
+ghost use Rattle.std.specs.Prelude.{◌≡◌};
+ghost use Rattle.record.specs.Refused.{refusal_of};
+
+use answer::Refusal;
 use transit::{Rank, Value};
 
 pub mod decode;
@@ -22,10 +26,20 @@ pub enum Record {
     Look(Rank),
 }
 
-// What stands at a position of a log: a whole record and the position after it; a kind that is none; or the log's end, or a body cut short.
-#[derive(Clone, Copy)]
-pub enum Decoded {
-    Whole(Record, usize),
+// Why no record stands at a position of a log: a kind that is none; or the log's end, or a body cut short.
+#[derive(Clone, Copy, PartialEq, Eq)]
+pub enum Fault {
     Unknown,
     Cut,
+}
+
+impl From<Fault> for Refusal {
+    ghost from_gives = { λ fault refusal. refusal ≡ refusal_of fault };
+
+    fn from(fault: Fault) -> Refusal {
+        match fault {
+            Fault::Unknown => Refusal::UnknownKind,
+            Fault::Cut => Refusal::CutShort,
+        }
+    }
 }

@@ -22,7 +22,7 @@ pub fn settle(
         slots.new contents.new roster.new }
 {
     match judge(read, slots, contents, roster) {
-        Err(n) => Answer::Refused(n),
-        Ok(()) => Answer::Accepted(apply(read, slots, contents, roster)),
+        Err(n) => Err(n),
+        Ok(()) => Ok(apply(read, slots, contents, roster)),
     }
 }

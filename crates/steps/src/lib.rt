@@ -35,7 +35,7 @@ pub fn step(broker: Broker, log: &[u8], at: usize) -> Outcome
     if !load(broker, &mut slots, &mut contents, &mut roster) {
         return Outcome {
             broker: broker,
-            answer: Answer::Refused(Refusal::Unsound),
+            answer: Err(Refusal::Unsound),
             next: at,
         };
     }
@@ -43,12 +43,12 @@ pub fn step(broker: Broker, log: &[u8], at: usize) -> Outcome
     let answer = reply.answer;
     let next = reply.next;
     match answer {
-        Answer::Refused(_) => Outcome {
+        Err(_) => Outcome {
             broker: broker,
             answer: answer,
             next: next,
         },
-        Answer::Accepted(_) => {
+        Ok(_) => {
             let after = unload(broker, &slots, &contents, &roster);
             Outcome {
                 broker: after,

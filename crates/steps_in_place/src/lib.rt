@@ -6,7 +6,6 @@ ghost use Rattle.desk.specs.Desk.{IsDesk};
 ghost use Rattle.steps_in_place.specs.InPlace.{StepsInPlace};
 
 use answer::{Answer, Refusal};
-use record::Decoded;
 use record::decode::decode;
 use roster::Roster;
 use settle::settle;
@@ -32,21 +31,13 @@ pub fn step_in_place(
         slots.new contents.new roster.new }
     ensures never_eighteen { NeverEighteen result.answer }
 {
-    let decoded = decode(log, at);
-    match decoded {
-        Decoded::Whole(read, next) => {
+    match decode(log, at) {
+        Ok((read, next)) => {
             let answer = settle(read, slots, contents, roster);
-            Reply {
-                answer: answer,
-                next: next,
-            }
+            Reply { answer, next }
         }
-        Decoded::Unknown => Reply {
-            answer: Answer::Refused(Refusal::UnknownKind),
-            next: at,
-        },
-        Decoded::Cut => Reply {
-            answer: Answer::Refused(Refusal::CutShort),
+        Err(fault) => Reply {
+            answer: Err(Refusal::from(fault)),
             next: at,
         },
     }

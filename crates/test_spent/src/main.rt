@@ -3,7 +3,7 @@
 // pair has already sent 4,294,967,295, tested after 25".
 #![tactic(auto)]
 
-use answer::Values;
+use answer::{Values, number_of, values_of};
 use broker::state::Broker;
 use std::io;
 use steps::step;
@@ -60,7 +60,7 @@ fn run(rt: &impl Print, start: Broker, log: &[u8]) -> io::Result<Broker> {
     while at < log.len() {
         let done = step(broker, log, at);
         let answer = done.answer;
-        tell(rt, answer.number(), answer.values())?;
+        tell(rt, number_of(answer), values_of(answer))?;
         let next = done.next;
         if next <= at {
             return Ok(broker);

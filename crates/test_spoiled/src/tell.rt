@@ -1,4 +1,5 @@
 // What a step finds of a state.
+use answer::number_of;
 use broker::state::Broker;
 use std::io;
 use steps::step;
@@ -8,8 +9,7 @@ use steps::step;
 pub fn tell(rt: &impl Print, name: &[u8], broker: Broker) -> io::Result<()> {
     let log = [0u8; 0];
     let stepped = step(broker, &log, 0);
-    let answer = stepped.answer;
-    let number = answer.number();
+    let number = number_of(stepped.answer);
     let after = stepped.broker;
     rt.write_all(name)?;
     if after != broker {

@@ -10,7 +10,7 @@ ghost use Rattle.protocol.specs.Step.{step};
 ghost use Rattle.desk.specs.Desk.{IsDesk};
 ghost use Rattle.steps.specs.Outcome.{outcome, RefusalKeeps};
 
-use answer::Answer;
+use answer::{Answer, number_of, values_of};
 use broker::state::Broker;
 use roster::{ROSTER_LENGTH, Roster};
 use soundness::is_sound;
@@ -73,8 +73,8 @@ fn lead(log: &[u8], slots: &mut Slots, contents: &mut Contents, roster: &mut Ros
 
 // The answer's number and its first value, together.
 fn told(answer: Answer) -> u64 {
-    let values = answer.values();
-    (answer.number() as u64).wrapping_add(values.0 as u64)
+    let values = values_of(answer);
+    (number_of(answer) as u64).wrapping_add(values.0 as u64)
 }
 
 // A step by lending: the state is lent to the step, and then handed back.

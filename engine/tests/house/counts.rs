@@ -35,7 +35,7 @@ fn hands_out(words: &[&str], at: usize) -> bool {
     }
 }
 
-/// The counts of a source above it that are made another number by `as`.
+/// The counts of a source above it that are made another number, by `as` or by `from`.
 fn widened(source: &Source, counting: &[String]) -> Vec<String> {
     let plain = plain_part(&source.text);
     let words = plain_words(&plain);
@@ -46,15 +46,40 @@ fn widened(source: &Source, counting: &[String]) -> Vec<String> {
         _ => false,
     };
     let bound: Vec<&str> = (0..words.len()).filter(bound).map(|at| words[at]).collect();
-    let casts = (1..words.len()).filter(|&at| words[at] == "as");
-    let subjects = casts.map(|at| match words[at - 1] {
-        ")" => called(&words[..at - 1]),
-        subject => subject,
+    let subjects = (1..words.len()).filter_map(|at| match words[at..] {
+        ["as", ..] => Some(subject(&words[..at])),
+        ["from", "(", ..] => Some(subject(argument(&words[at + 2..]))),
+        _ => None,
     });
     let counts = subjects.filter(|subject| bound.contains(subject) || is_counting(subject));
     counts
         .map(|count| format!("{}: '{count}'", source.path))
         .collect()
+}
+
+/// What an expression names that ends with these words: a name, or the function of a call.
+fn subject<'a>(words: &[&'a str]) -> &'a str {
+    match words {
+        [before @ .., ")"] => called(before),
+        [.., name] => name,
+        [] => "",
+    }
+}
+
+/// The words of a call's argument, from those behind its first bracket.
+fn argument<'a, 'b>(words: &'b [&'a str]) -> &'b [&'a str] {
+    let mut open = 1;
+    for (at, word) in words.iter().enumerate() {
+        match *word {
+            "(" => open += 1,
+            ")" => open -= 1,
+            _ => {}
+        }
+        if open == 0 {
+            return &words[..at];
+        }
+    }
+    words
 }
 
 /// The function of a call, from the words before its last bracket.
@@ -100,8 +125,17 @@ fn widened_counts_are_found() {
         "x.rt",
         "fn f(n: Count, m: u8) {\n    let k = count(slots);\n    let v = more(k);\n    \
         g(k as u32, m as u32, v as u64, removed.left as u32, removed.value as u64);\n    \
-        h(count(side(slots)) as u64, more(k) as u64, n as usize)\n}",
+        h(count(side(slots)) as u64, more(k) as u64, n as usize);\n    \
+        i(u32::from(k), u64::from(count(slots)), u64::from(m), u32::from(removed.left))\n}",
     );
-    let found = ["x.rt: 'k'", "x.rt: 'left'", "x.rt: 'count'", "x.rt: 'n'"];
+    let found = [
+        "x.rt: 'k'",
+        "x.rt: 'left'",
+        "x.rt: 'count'",
+        "x.rt: 'n'",
+        "x.rt: 'k'",
+        "x.rt: 'count'",
+        "x.rt: 'left'",
+    ];
     assert_eq!(widened(&above, &counting), found);
 }

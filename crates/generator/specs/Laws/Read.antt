@@ -1,6 +1,6 @@
 -- A made-up log is read as the records that were made: each is whole, of a known kind, and names ranks and hosts that there are.
 -- Assumes nothing.
-use Rattle.std.specs.Prelude.{◌≡◌, true, ◌&&◌, List, [], ◌++◌, ℕ, zero, suc, ◌+◌, ◌%◌, ltb, get_or, drop}
+use Rattle.std.specs.Prelude.{◌≡◌, true, ◌&&◌, List, [], ◌++◌, ℕ, zero, suc, ◌+◌, ◌%◌, ltb, get_or, drop, Ok}
 use Rattle.std.proofs.Math.Path.{refl, ap}
 use Rattle.std.proofs.Common.{sym, ◌∙◌, append_assoc, append-nil, arith, mod-lt, lt-ltb, length-append}
 use Rattle.std.proofs.Math.Bool.{and-false}
@@ -16,7 +16,6 @@ use Rattle.record.specs.Laws.Record.{whole, kind_between}
 use Rattle.broker.specs.Names.{hosts}
 use Rattle.record.specs.Parts.{ranks_in, hosts_in}
 use Rattle.record.specs.Record.{fields_of, body_length, record_of, decode}
-use Rattle.record.specs.declared.Decoded.TheVariants.{Whole}
 use Rattle.record.specs.declared.Record.{Record}
 use Rattle.generator_draw.specs.Draw.{draw}
 use Rattle.generator.specs.Laws.MadeUp.{record_length}
@@ -101,7 +100,7 @@ module _ (front : List ℕ) (word : ℕ) (rest : List ℕ) where
       ap (λ (n : ℕ). take n (drawn ++ rest)) (sym own) ∙ take-append_seam drawn rest
 
   record_read : decode log (length front) ≡
-      Whole (record_of kind (body (fields_of kind) (draw word))) (length front + length (made_record word))
+      Ok (record_of kind (body (fields_of kind) (draw word)), length front + length (made_record word))
   record_read =
       let long : length log ≡ length front + (length (made_record word) + length rest) = rw (length-append, length-append) in
       let own = record_length word in

@@ -1,9 +1,8 @@
 -- A log that is made, computed from the definitions: every kind, with a rank above 7 at each place of a rank. Assumes nothing.
-use Rattle.std.specs.Prelude.{◌≡◌, refl, List, [], ◌∷◌, ◌++◌, ℕ}
+use Rattle.std.specs.Prelude.{◌≡◌, refl, List, [], ◌∷◌, ◌++◌, ℕ, Ok}
 use Rattle.transit.specs.Message.{rank}
 use Rattle.record.specs.Kind
 use Rattle.record.specs.Record.{decode, record_of}
-use Rattle.record.specs.declared.Decoded.TheVariants.{Whole}
 use Rattle.record.specs.declared.Record.TheVariants.{Send}
 use Rattle.generator_draw.specs.Draw.{draw}
 use Rattle.generator_record.specs.MadeUp.{made_record, record_leaves, made_log, log_leaves}
@@ -28,6 +27,6 @@ unfolding draw record_leaves log_leaves
 all_kinds_leave = refl
 
 -- "a send's value is one whole draw": the first record of seed 7 is a send of the fourth draw
-pub whole_draw : decode (made_log 1 7) 0 ≡ Whole (Send (rank 7) (rank 3) (draw (draw (draw (draw 7))))) 7
+pub whole_draw : decode (made_log 1 7) 0 ≡ Ok (Send (rank 7) (rank 3) (draw (draw (draw (draw 7)))), 7)
 unfolding draw made_record record_leaves made_log decode record_of
 whole_draw = refl

@@ -2,6 +2,7 @@
 use Rattle.std.proofs.Common.{true≢false, arith}
 use Rattle.std.specs.Prelude.{[], ◌∷◌, ◌≡◌, ℕ}
 use Rattle.transit.specs.Message.{rank}
+use Rattle.protocol.proofs.Laws.Step.{whole_ends}
 use Rattle.protocol.specs.Checks.{rank_range, host_range}
 use Rattle.record.specs.Kind
 use Rattle.record.specs.Record.{decode, record_of}
@@ -21,8 +22,10 @@ body_cut (reads e range rest) = let clash : ◌≡◌ {A = ℕ} 0 1 = cc in omeg
 
 -- fewer records than there are, and more
 pub record_behind : Holds (Kind.look ∷ 1 ∷ Kind.look ∷ 2 ∷ []) 1 0 → ⊥
-unfolding decode record_of
-record_behind (reads e range (ends end)) = let clash : ◌≡◌ {A = ℕ} 2 4 = cc in omega arith
+record_behind (reads {next} e range (ends end)) =
+    let past : next ≡ 2 = whole_ends (Kind.look ∷ 1 ∷ Kind.look ∷ 2 ∷ []) 0 _ next e in
+    let clash : ◌≡◌ {A = ℕ} 2 4 = cc in
+    omega arith
 
 pub record_missing : Holds [] 1 0 → ⊥
 unfolding decode record_of

@@ -1,6 +1,6 @@
 -- What is taken from a to b, and behind it what is left, is what was there, and behind it what is sent: of any number that a message keeps
 -- wherever it is, over each step and over a list of steps. Assumes nothing.
-use Rattle.std.specs.Prelude.{◌≡◌, true, false, ◌&&◌, List, [], ◌∷◌, ◌++◌, map, ℕ, ◌<◌}
+use Rattle.std.specs.Prelude.{◌≡◌, true, false, ◌&&◌, List, [], ◌∷◌, ◌++◌, map, ℕ, ◌<◌, Ok}
 use Rattle.std.proofs.Math.Path.{sym, ap}
 use Rattle.std.proofs.Common.{◌∙◌, append-nil, append_assoc}
 use Rattle.std.proofs.lemmas.List.{map-append}
@@ -24,7 +24,6 @@ use Rattle.record.specs.Record.{decode}
 use Rattle.protocol.specs.Sound.{sound}
 use Rattle.broker.specs.State.{State, messages}
 use Rattle.protocol.specs.Step.{apply}
-use Rattle.record.specs.declared.Decoded.TheVariants.{Whole}
 use Rattle.record.specs.declared.Record.{Record}
 use Rattle.record.specs.declared.Record.TheVariants.{Start, Call, Route, Send, Take, Move, Heed, Drain, Land, Part, End, Look}
 use Rattle.ordering.specs.Claim.{Reading, Entry, after, accepted, is_take, sent}
@@ -114,7 +113,7 @@ module _ (a b : Rank) (f : Message → ℕ) (answer : Entry → ℕ) (new : Stat
   Balances s es end =
       took a b answer es ++ map f (place_order (Between a b) (messages end)) ≡ each_between f a b (core s) ++ new s es
 
-  step_balances : (s : State) (x : Reading) (r : Record) (next : ℕ) → sound s ≡ true → decode x.log x.at ≡ Whole r next
+  step_balances : (s : State) (x : Reading) (r : Record) (next : ℕ) → sound s ≡ true → decode x.log x.at ≡ Ok (r, next)
       → refusal s r ≡ none → (es : List Entry) (end : State) → Balances (apply r s).state es end
       → Balances s (entry r s ∷ es) end
   unfolding Balanced

@@ -1,6 +1,6 @@
 -- Lists of accepted steps from a state, built from the back: what they share with another list, and that they end quiet.
 -- Assumes nothing.
-use Rattle.std.specs.Prelude.{◌≡◌, refl, Bool, true, List, [], ◌∷◌, ◌++◌, ℕ}
+use Rattle.std.specs.Prelude.{◌≡◌, refl, Bool, true, List, [], ◌∷◌, ◌++◌, ℕ, Ok}
 use Rattle.std.proofs.Common.{sym, ap, subst, ◌∙◌}
 use Rattle.std.proofs.Math.Option.{Option, none}
 use Rattle.base.specs.Laws.Tests.{both}
@@ -13,7 +13,6 @@ use Rattle.record.specs.Record.{decode}
 use Rattle.protocol.specs.Sound.{sound}
 use Rattle.broker.specs.State.{State}
 use Rattle.protocol.specs.Step.{apply}
-use Rattle.record.specs.declared.Decoded.TheVariants.{Whole}
 use Rattle.record.specs.declared.Record.{Record}
 use Rattle.ordering.specs.Claim.{
   Reading,
@@ -99,7 +98,7 @@ module _
   where
     pub step_follows :
         (in_bytes ≡ true → is_bytes x ≡ true) →
-        decode x.log x.at ≡ Whole r next →
+        decode x.log x.at ≡ Ok (r, next) →
         sound q ≡ true →
         refusal q r ≡ none →
         Leads moving r then →

@@ -1,6 +1,6 @@
 -- Lists of steps: what a step adds to the accepted ones, and induction along a list, in which a refused step changes nothing.
 -- Assumes nothing.
-use Rattle.std.specs.Prelude.{◌≡◌, true, List, [], ◌∷◌, ◌++◌, ℕ}
+use Rattle.std.specs.Prelude.{◌≡◌, true, List, [], ◌∷◌, ◌++◌, ℕ, Ok}
 use Rattle.std.proofs.Common.{sym, subst₂}
 use Rattle.std.proofs.Math.Option.{none}
 use Rattle.base.specs.Laws.Tests.{by_test, true_of}
@@ -13,7 +13,6 @@ use Rattle.record.specs.Record.{decode}
 use Rattle.protocol.specs.Sound.{sound}
 use Rattle.broker.specs.State.{State, fresh}
 use Rattle.protocol.specs.Step.{apply}
-use Rattle.record.specs.declared.Decoded.TheVariants.{Whole}
 use Rattle.record.specs.declared.Record.{Record}
 use Rattle.ordering.specs.Claim.{Reading, Entry, after, accepted, is_send, is_take, sent, taken, is_five, five_kinds}
 
@@ -42,7 +41,7 @@ module _
     (r : Record)
     (next : ℕ)
     (h : sound s ≡ true)
-    (reads : decode x.log x.at ≡ Whole r next)
+    (reads : decode x.log x.at ≡ Ok (r, next))
     (p : refusal s r ≡ none)
   where
     pub carried_enters : accepted s (x ∷ xs) ≡ entry r s ∷ accepted (apply r s).state xs
@@ -60,7 +59,7 @@ module _
     (one_accepted :
     (s : State) (x : Reading) (r : Record) (next : ℕ) →
     sound s ≡ true →
-    decode x.log x.at ≡ Whole r next →
+    decode x.log x.at ≡ Ok (r, next) →
     refusal s r ≡ none →
     (xs : List Reading) (es : List Entry) (end : State) →
     P xs (apply r s).state es end →
@@ -91,7 +90,7 @@ module _
     (one_more :
     (s : State) (x : Reading) (r : Record) (next : ℕ) →
     sound s ≡ true →
-    decode x.log x.at ≡ Whole r next →
+    decode x.log x.at ≡ Ok (r, next) →
     refusal s r ≡ none →
     (es : List Entry) (end : State) →
     P (apply r s).state es end →

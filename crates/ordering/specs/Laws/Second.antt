@@ -1,6 +1,6 @@
 -- The second half of the ordering claim: the second list, step by step along the first, and what the two lists leave.
 -- Assumes nothing.
-use Rattle.std.specs.Prelude.{◌≡◌, refl, Bool, true, List, [], ◌∷◌, ℕ}
+use Rattle.std.specs.Prelude.{◌≡◌, refl, Bool, true, List, [], ◌∷◌, ℕ, Ok}
 use Rattle.std.proofs.Common.{sym, ap, subst, ◌∙◌}
 use Rattle.std.proofs.Math.Option.{none}
 use Rattle.std.proofs.lemmas.Bool.{not-true}
@@ -20,7 +20,6 @@ use Rattle.protocol.specs.Sound.{sound}
 use Rattle.broker.specs.State.{State, idle, apart, cell, fresh, status}
 use Rattle.protocol.specs.Step.{apply}
 use Rattle.broker.specs.declared.process.Process.{Process}
-use Rattle.record.specs.declared.Decoded.TheVariants.{Whole}
 use Rattle.record.specs.declared.Record.{Record}
 use Rattle.record.specs.declared.Record.TheVariants.{Start, Call, Route, Send, Take, Move, Heed, Drain, Land, Part, End, Look}
 use Rattle.ordering.specs.Claim.{Reading, is_bytes, are_bytes, Entry, after, accepted, taken, five_kinds, SecondHalf}
@@ -35,7 +34,7 @@ stands :
     sound s ≡ true →
     Quiet q →
     core q ≡ core s →
-    decode x.log x.at ≡ Whole r next →
+    decode x.log x.at ≡ Ok (r, next) →
     refusal s r ≡ none →
     Standing s q x r
 stands s q x (Start r h) next hs quiet same reads p = start_stands s q x next quiet same r h reads p
@@ -65,7 +64,7 @@ Followed xs s es end =
 step_followed :
     (s : State) (x : Reading) (r : Record) (next : ℕ) →
     sound s ≡ true →
-    decode x.log x.at ≡ Whole r next →
+    decode x.log x.at ≡ Ok (r, next) →
     refusal s r ≡ none →
     (xs : List Reading) (es : List Entry) (end : State) →
     Followed xs (apply r s).state es end →

@@ -1,6 +1,6 @@
 -- What stands in the second list for a send: a call, its route, once more where the posted vmid was not the current end, the send, and the
 -- parting. Assumes nothing.
-use Rattle.std.specs.Prelude.{◌≡◌, Bool, true, false, List, ◌∷◌, ℕ}
+use Rattle.std.specs.Prelude.{◌≡◌, Bool, true, false, List, ◌∷◌, ℕ, Ok}
 use Rattle.std.proofs.Math.Path.{refl, ap}
 use Rattle.std.proofs.Common.{sym, ◌∙◌}
 use Rattle.std.proofs.Math.Option.{none}
@@ -21,7 +21,6 @@ use Rattle.broker.specs.State.{State, status, location}
 use Rattle.protocol.specs.Step.{apply}
 use Rattle.broker.specs.declared.process.Status.{Status}
 use Rattle.broker.specs.declared.process.Vmid.{Vmid}
-use Rattle.record.specs.declared.Decoded.TheVariants.{Whole}
 use Rattle.record.specs.declared.Record.{Record}
 use Rattle.record.specs.declared.Record.TheVariants.{Call, Route, Send, Part}
 use Rattle.ordering.specs.Claim.{Reading, is_byte, is_bytes}
@@ -119,7 +118,7 @@ module _ (s : State) (a b : Rank) (v : ℕ) (hs : sound s ≡ true) (p : refusal
       (q : State) (x : Reading) (next : ℕ) →
       Quiet q →
       core q ≡ core s →
-      decode x.log x.at ≡ Whole (Send a b v) next →
+      decode x.log x.at ≡ Ok (Send a b v, next) →
       Standing s q x (Send a b v)
   unfolding apply decode record_of
   send_stands q x next quiet same reads =

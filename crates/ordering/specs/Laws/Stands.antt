@@ -1,6 +1,6 @@
 -- What stands in the second list for one accepted step of the first: nothing, the step itself, or a move and its landing at once. What
 -- stands for a send is `Sends`. Assumes nothing.
-use Rattle.std.specs.Prelude.{◌≡◌, Bool, true, ℕ, ◌<◌}
+use Rattle.std.specs.Prelude.{◌≡◌, Bool, true, ℕ, ◌<◌, Ok}
 use Rattle.std.proofs.Math.Path.{refl, sym, ap}
 use Rattle.std.proofs.Common.{◌∙◌, arith, lt-ltb}
 use mathlib.Core.List.{List, [], ◌∷◌, ◌++◌, head-eq_of_cons-eq}
@@ -21,7 +21,6 @@ use Rattle.record.specs.Record.{decode, record_of}
 use Rattle.protocol.specs.Sound.{sound}
 use Rattle.broker.specs.State.{State}
 use Rattle.protocol.specs.Step.{apply}
-use Rattle.record.specs.declared.Decoded.TheVariants.{Whole}
 use Rattle.record.specs.declared.Record.{Record}
 use Rattle.record.specs.declared.Record.TheVariants.{Start, Take, Move, Land, End}
 use Rattle.ordering.specs.Claim.{Reading, is_byte, is_bytes, taken, five_kinds}
@@ -93,7 +92,7 @@ module _ (s q : State) (x : Reading) (next : ℕ) (quiet : Quiet q) (same : core
   -- The record stands as it is, where it is accepted from q, leaves all calm, and takes what it takes from s.
   itself_stands :
       (r : Record) →
-      decode x.log x.at ≡ Whole r next →
+      decode x.log x.at ≡ Ok (r, next) →
       refusal q r ≡ none →
       Leads none r none →
       ((a b : Rank) → taken a b (entry r q ∷ []) ≡ taken a b (entry r s ∷ [])) →
@@ -112,7 +111,7 @@ module _ (s q : State) (x : Reading) (next : ℕ) (quiet : Quiet q) (same : core
 
   pub start_stands :
       (r : Rank) (h : ℕ) →
-      decode x.log x.at ≡ Whole (Start r h) next →
+      decode x.log x.at ≡ Ok (Start r h, next) →
       refusal s (Start r h) ≡ none →
       Standing s q x (Start r h)
   unfolding apply
@@ -120,7 +119,7 @@ module _ (s q : State) (x : Reading) (next : ℕ) (quiet : Quiet q) (same : core
       itself_stands (Start r h) reads (start_again s q same quiet.calm r h p) (λ l. refl) (λ a b. refl)
       (start_calm q r h quiet.calm (start_fits s r h p).in_range)
 
-  pub end_stands : (r : Rank) → decode x.log x.at ≡ Whole (End r) next → refusal s (End r) ≡ none → Standing s q x (End r)
+  pub end_stands : (r : Rank) → decode x.log x.at ≡ Ok (End r, next) → refusal s (End r) ≡ none → Standing s q x (End r)
   unfolding apply
   end_stands r reads p =
       itself_stands (End r) reads (end_again s q same quiet.calm r p) (λ l. refl) (λ a b. refl)
@@ -130,7 +129,7 @@ module _ (s q : State) (x : Reading) (next : ℕ) (quiet : Quiet q) (same : core
   pub take_stands :
       (b a : Rank) →
       sound s ≡ true →
-      decode x.log x.at ≡ Whole (Take b a) next →
+      decode x.log x.at ≡ Ok (Take b a, next) →
       refusal s (Take b a) ≡ none →
       Standing s q x (Take b a)
   unfolding apply
@@ -146,7 +145,7 @@ module _ (s q : State) (x : Reading) (next : ℕ) (quiet : Quiet q) (same : core
   -- No line stands when the rank moves, so that it lands at once.
   pub move_stands :
       (r : Rank) (h : ℕ) →
-      decode x.log x.at ≡ Whole (Move r h) next →
+      decode x.log x.at ≡ Ok (Move r h, next) →
       refusal s (Move r h) ≡ none →
       Standing s q x (Move r h)
   unfolding apply decode record_of

@@ -1,6 +1,6 @@
 -- What the claim counts: what is read of a written record, which steps are accepted, which values are sent, taken and unread from one rank
 -- to another, where a move is open, and which logs are bytes. Computed from the definitions. Assumes nothing.
-use Rattle.std.specs.Prelude.{◌≡◌, refl, true, false, List, [], ◌∷◌, ◌++◌, map, ℕ, ◌+◌, length, replicate}
+use Rattle.std.specs.Prelude.{◌≡◌, refl, true, false, List, [], ◌∷◌, ◌++◌, map, ℕ, ◌+◌, length, replicate, Ok, Err}
 use Rattle.std.proofs.Common.{ap}
 use Rattle.transit.specs.Message.{message, rank}
 use Rattle.transit.specs.Unread.{counted}
@@ -13,10 +13,9 @@ use Rattle.broker.specs.Ranks.{every_rank}
 use Rattle.record.specs.Record.{decode, record_of}
 use Rattle.broker.specs.State.{State, idle, fresh, with_status, with_unread}
 use Rattle.answer.specs.Answer.{three}
-use Rattle.answer.specs.declared.Answer.TheVariants.{Accepted, Refused}
 use Rattle.answer.specs.declared.Refusal.TheVariants.{NotConnected}
 use Rattle.broker.specs.declared.process.Status.TheVariants.{Running, Migrating, Ended}
-use Rattle.record.specs.declared.Decoded.TheVariants.{Whole, Unknown, Cut}
+use Rattle.record.specs.declared.Fault.TheVariants.{Unknown, Cut}
 use Rattle.record.specs.declared.Record.{Record}
 use Rattle.record.specs.declared.Record.TheVariants.{Start, Call, Route, Send, Take, Look}
 use Rattle.ordering.specs.Claim.{
@@ -40,26 +39,26 @@ use Rattle.ordering.specs.Worked.Unbroken.{every_kind, every_entry}
 -- Written records.
 
 pub record_of_every_kind_is_read_as_written :
-    map (λ (r : Record). decode (written r) 0) every_kind ≡ map (λ (r : Record). Whole r (length (written r))) every_kind
+    map (λ (r : Record). decode (written r) 0) every_kind ≡ map (λ (r : Record). Ok (r, length (written r))) every_kind
 unfolding decode record_of
 record_of_every_kind_is_read_as_written = refl
 
 -- Accepted steps.
 
-pub answer_without_a_number_is_accepted : is_accepted (Accepted (three 0 0 0)) ≡ true
+pub answer_without_a_number_is_accepted : is_accepted (Ok (three 0 0 0)) ≡ true
 answer_without_a_number_is_accepted = refl
 
-pub refusal_is_not_accepted : is_accepted (Refused NotConnected) ≡ false
+pub refusal_is_not_accepted : is_accepted (Err NotConnected) ≡ false
 refusal_is_not_accepted = refl
 
 pub accepted_record_enters_with_v1_and_v3 :
-    entry_of (Accepted (three 1 2 3)) (Whole (Send (rank 0) (rank 1) 7) 7) ≡ did (Send (rank 0) (rank 1) 7) 1 3 ∷ []
+    entry_of (Ok (three 1 2 3)) (Ok (Send (rank 0) (rank 1) 7, 7)) ≡ did (Send (rank 0) (rank 1) 7) 1 3 ∷ []
 accepted_record_enters_with_v1_and_v3 = refl
 
-pub refused_record_does_not_enter : entry_of (Refused NotConnected) (Whole (Send (rank 0) (rank 1) 7) 7) ≡ []
+pub refused_record_does_not_enter : entry_of (Err NotConnected) (Ok (Send (rank 0) (rank 1) 7, 7)) ≡ []
 refused_record_does_not_enter = refl
 
-pub no_record_does_not_enter : entry_of (Accepted (three 1 2 3)) Unknown ++ entry_of (Accepted (three 1 2 3)) Cut ≡ []
+pub no_record_does_not_enter : entry_of (Ok (three 1 2 3)) (Err Unknown) ++ entry_of (Ok (three 1 2 3)) (Err Cut) ≡ []
 no_record_does_not_enter = refl
 
 -- A send before a line stands is refused and does not count; the next one does. Then rank 1 looks, and the look names the sender.

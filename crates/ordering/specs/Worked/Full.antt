@@ -1,6 +1,6 @@
 -- A pair that has all 1,024 messages of the desk: a worked run from the fresh state. Paper 02, change 3: "The unread count of a pair never
 -- passes 1,024." It comes to that, and no further. Assumes nothing.
-use Rattle.std.specs.Prelude.{◌≡◌, refl, true, List, [], ◌∷◌, ◌++◌, map, ℕ, zero, suc, ◌+◌, ◌<◌, ◌≤◌, replicate, set}
+use Rattle.std.specs.Prelude.{◌≡◌, refl, true, List, [], ◌∷◌, ◌++◌, map, ℕ, zero, suc, ◌+◌, ◌<◌, ◌≤◌, replicate, set, Err}
 use Rattle.std.proofs.Common.{sym, ap, ◌∙◌, arith}
 use Rattle.std.proofs.lemmas.List.{map-append, length-map}
 use Rattle.base.specs.Laws.Numbers.{up_from_long, up_from_append}
@@ -20,7 +20,6 @@ use Rattle.record.specs.Record.{decode, record_of}
 use Rattle.protocol.specs.Sound.{sound}
 use Rattle.broker.specs.State.{State, fresh, with_unread}
 use Rattle.protocol.specs.Step.{Outcome, apply}
-use Rattle.answer.specs.declared.Answer.TheVariants.{Refused}
 use Rattle.answer.specs.declared.Refusal.TheVariants.{Full}
 use Rattle.record.specs.declared.Record.TheVariants.{Start, Call, Route, Send, Move, Land, Part}
 use Rattle.ordering.specs.Claim.{Reading, Entry, step_at, after, accepted}
@@ -130,7 +129,7 @@ full_sound : sound (after fresh (filling limit)) ≡ true
 full_sound = sound_after (filling limit) fresh fresh_sound
 
 -- One more send is refused with 24.
-pub one_more_is_refused : (step_at (after fresh (filling limit)) sending).answer ≡ Refused Full
+pub one_more_is_refused : (step_at (after fresh (filling limit)) sending).answer ≡ Err Full
 unfolding computed_from computed up_from
 one_more_is_refused =
     ap (λ (o : Outcome). o.answer) (step_of_sound (after fresh (filling limit)) sending.log 0 full_sound) ∙

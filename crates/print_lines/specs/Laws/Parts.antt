@@ -1,5 +1,5 @@
 -- The lines as they are put on a page, part after part. Assumes nothing.
-use Rattle.std.specs.Prelude.{◌≡◌, List, [], ◌∷◌, ◌++◌, ℕ}
+use Rattle.std.specs.Prelude.{◌≡◌, List, [], ◌∷◌, ◌++◌, ℕ, Result}
 use Rattle.std.proofs.Common.{ap, ◌∙◌, append_assoc, eq-eqb, ne_eqb}
 use Rattle.base.specs.Lists.{tally}
 use Rattle.transit.specs.Message.{between, rank}
@@ -7,12 +7,13 @@ use Rattle.transit.specs.declared.Message.{Message}
 use Rattle.print_page.specs.Laws.Text.{numbers_append}
 use Rattle.print_page.specs.Text.{decimal, hex, newline, numbers, space}
 use Rattle.answer.specs.Answer.{number, values}
-use Rattle.answer.specs.declared.Answer.{Answer}
+use Rattle.answer.specs.declared.Values.{Values}
+use Rattle.answer.specs.declared.Refusal.{Refusal}
 use Rattle.print_lines.specs.Lines.{record_line, pair_word, pair_line, counts_at_places, lines_of_pair}
 
 -- A record's line is its position, its kind, the numbers of its answer and the line's end.
 pub record_parts :
-    (position kind : ℕ) (a : Answer) {n : ℕ} {ns : List ℕ} → n ≡ number a → ns ≡ values a →
+    (position kind : ℕ) (a : Result Values Refusal) {n : ℕ} {ns : List ℕ} → n ≡ number a → ns ≡ values a →
     decimal position ++ (space ∷ hex kind) ++ numbers (n ∷ ns) ++ (newline ∷ []) ≡ record_line position kind a
 unfolding record_line
 record_parts position kind a e f = rw (e, f)

@@ -1,5 +1,5 @@
 -- Worked lines: of records, and of pairs in their order. Computed from the definitions. Assumes nothing.
-use Rattle.std.specs.Prelude.{◌≡◌, refl, List, [], ◌∷◌, ◌++◌, ℕ}
+use Rattle.std.specs.Prelude.{◌≡◌, refl, List, [], ◌∷◌, ◌++◌, ℕ, Ok, Err}
 use Rattle.transit.specs.declared.Message.{Message}
 use Rattle.transit.specs.declared.Place.{Place}
 use Rattle.transit.specs.declared.Place.TheVariants.{SourceList, SourceChannel, EndList, Channel}
@@ -7,7 +7,6 @@ use Rattle.print_page.specs.Ascii.{ascii_lines}
 use Rattle.print_page.specs.Text.{decimal}
 use Rattle.transit.specs.Message.{message, rank}
 use Rattle.answer.specs.Answer.{three}
-use Rattle.answer.specs.declared.Answer.TheVariants.{Accepted, Refused}
 use Rattle.answer.specs.declared.Refusal.TheVariants.{UnknownKind}
 use Rattle.print_lines.specs.Lines.{record_line, pair_line, pair_lines}
 
@@ -32,7 +31,7 @@ pairs_ascend = refl
 
 -- "kind (two hexadecimal digits, upper case), number (0 when accepted)"
 pub record_lines :
-    record_line 19 0x0A (Accepted (three 0 1 0)) ++ record_line 307 0xBF (Refused UnknownKind) ≡
+    record_line 19 0x0A (Ok (three 0 1 0)) ++ record_line 307 0xBF (Err UnknownKind) ≡
     ascii_lines ("19 0A 0 0 1 0" ∷ "307 BF 2 0 0 0" ∷ [])
 unfolding record_line decimal
 record_lines = refl

@@ -12,12 +12,12 @@ loop-at-init c =
 
 pub loop-at-smaller : goal.loop-at-smaller
 loop-at-smaller c =
-    let there = stands c.args.piece.now c.loop-at.at (sym c.decode-decoded.ensures ∙ c.in-Whole.is) in
+    let there = stands c.args.piece.now c.loop-at.at (sym c.decode.ensures ∙ c.in-Ok.is) in
     omega arith
 
 pub loop-at-preserved : goal.loop-at-preserved
 loop-at-preserved c =
-    let whole = sym c.decode-decoded.ensures ∙ c.in-Whole.is in
+    let whole = sym c.decode.ensures ∙ c.in-Ok.is in
     let done = c.settle-answer.ensures in
     let ran = some_more c.loop-at.invariant.1 _ _ whole _ done.same _ _ c.record_line-used.ensures (omega arith) in
     (done.kept, rw (add-one c.loop-at.steps) ran)

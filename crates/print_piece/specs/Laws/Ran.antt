@@ -1,5 +1,5 @@
 -- Laws of a run of a piece: it begins with no record, goes on record by record, and runs in a row are one run. Assumes nothing.
-use Rattle.std.specs.Prelude.{◌≡◌, refl, true, List, [], ◌∷◌, ◌++◌, ℕ, suc, ◌+◌, ◌≤◌, length, drop, get_or}
+use Rattle.std.specs.Prelude.{◌≡◌, refl, true, List, [], ◌∷◌, ◌++◌, ℕ, suc, ◌+◌, ◌≤◌, length, drop, get_or, Ok}
 use Rattle.std.proofs.Common.{sym, ◌∙◌, append-nil, add-zero, arith, length-append}
 use Rattle.std.proofs.lemmas.List.{drop-append-le}
 use Rattle.print_page.specs.Laws.Put.{shows}
@@ -10,7 +10,6 @@ use Rattle.record.specs.Record.{decode}
 use Rattle.protocol.specs.Sound.{sound}
 use Rattle.broker.specs.State.{State}
 use Rattle.protocol.specs.Step.{Settlement, settle}
-use Rattle.record.specs.declared.Decoded.TheVariants.{Whole}
 use Rattle.record.specs.declared.Record.{Record}
 use Rattle.print_run.proofs.Laws.Steps.{settled_sound}
 use Rattle.print_run.specs.Laws.Text.{lines_append}
@@ -22,7 +21,7 @@ use Rattle.print_run.specs.Wholes.{answered_at, wholes}
 
 -- One whole record more is run.
 ran_more : {s : State} {piece : List ℕ} {base steps : ℕ} {state : State} {at : ℕ} {answers : List Answered} →
-    Ran s piece base steps state at answers → (r : Record) (next : ℕ) → decode piece at ≡ Whole r next → let x = settle r state in
+    Ran s piece base steps state at answers → (r : Record) (next : ℕ) → decode piece at ≡ Ok (r, next) → let x = settle r state in
     Ran s piece base (suc steps) x.state next (answers ++ answered_at base piece at x.answer ∷ [])
 ran_more {s} {piece} {base} {steps} {state} {at} {answers} i r next e =
     let more = rw (← i.came) at (one_last base piece steps s 0 r next) in
@@ -58,7 +57,7 @@ never_in (a ∷ rest) = (never_eighteen a.answer, never_in rest)
 
 -- A whole record more is run where the page has room for its line.
 pub some_more : {s : State} {piece : List ℕ} {base room : ℕ} {state : State} {at used steps : ℕ} {page : List ℕ} →
-    RanSome s piece base room state at used steps page → (r : Record) (next : ℕ) → decode piece at ≡ Whole r next → (x : Settlement) →
+    RanSome s piece base room state at used steps page → (r : Record) (next : ℕ) → decode piece at ≡ Ok (r, next) → (x : Settlement) →
     (sound state ≡ true → x ≡ settle r state) → (after : List ℕ) (end : ℕ) →
     Put record_room page used (record_line (base + at) (get_or piece at 0) x.answer) after end → used + record_room ≤ length page →
     RanSome s piece base room x.state next end (suc steps) after

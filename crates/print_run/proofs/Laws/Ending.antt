@@ -1,5 +1,5 @@
 -- Laws of the step that ends a run. Assumes nothing.
-use Rattle.std.specs.Prelude.{◌≡◌, List, [], ◌∷◌, ℕ, ◌+◌, ◌≤◌, ◌<◌, leb, get_or, length, drop}
+use Rattle.std.specs.Prelude.{◌≡◌, List, [], ◌∷◌, ℕ, ◌+◌, ◌≤◌, ◌<◌, leb, get_or, length, drop, Err}
 use native.Mathlib.Omega.{arith}
 use borrow.Author.Tests.{lt-ltb, le-ltb, ltb-true}
 use Rattle.std.proofs.Math.Dec.{ltb}
@@ -7,7 +7,6 @@ use Rattle.std.proofs.Math.ListN.{length-drop}
 use Rattle.std.proofs.Common.{get_or-drop}
 use Rattle.base.specs.Laws.Tests.{by_test, same_truth}
 use Rattle.record.specs.Record.{is_kind, body_length, decode}
-use Rattle.answer.specs.declared.Answer.TheVariants.{Refused}
 use Rattle.print_run.specs.Laws.Wholes.{moved_by}
 use Rattle.print_run.specs.Laws.Window.{moved_same, decode_dropped}
 use Rattle.print_run.specs.Run.{Came}
@@ -20,7 +19,7 @@ module _ (base : ℕ) (log : List ℕ) (at : ℕ) where
   closing_at_end h = rw (le-ltb at (length log) h)
 
   -- Short of it the run ends with what stands there, and its kind tells why.
-  pub closing_by_kind : at < length log → closing base log at ≡ answered_at base log at (Refused (reason_of (get_or log at 0))) ∷ []
+  pub closing_by_kind : at < length log → closing base log at ≡ answered_at base log at (Err (reason_of (get_or log at 0))) ∷ []
   unfolding closing decode
   closing_by_kind h =
       rw (lt-ltb at (length log) h)

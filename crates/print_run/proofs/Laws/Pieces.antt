@@ -1,13 +1,13 @@
 -- A log that is run in pieces: what is run of a piece, and then the rest of the piece with all that follows it, is the run of the log.
 -- Paper 01, "The printed run". Assumes nothing.
-use Rattle.std.specs.Prelude.{◌≡◌, true, false, List, [], ◌∷◌, ◌++◌, ℕ, ◌+◌, ◌≤◌, length, drop}
+use Rattle.std.specs.Prelude.{◌≡◌, true, false, List, [], ◌∷◌, ◌++◌, ℕ, ◌+◌, ◌≤◌, length, drop, Err}
 use Rattle.std.proofs.Common.{ap, sym, ◌∙◌, append_assoc, append-nil, add-zero, arith, length-append}
 use Rattle.std.proofs.Math.ListN.{get_or-append}
 use Rattle.std.proofs.lemmas.List.{drop-append-le}
 use Rattle.record.specs.Record.{decode}
 use Rattle.protocol.specs.Sound.{sound}
 use Rattle.broker.specs.State.{State}
-use Rattle.record.specs.declared.Decoded.TheVariants.{Unknown}
+use Rattle.record.specs.declared.Fault.TheVariants.{Unknown}
 use Rattle.print_run.proofs.Laws.Ending.{closing_by_kind, ended_dropped}
 use Rattle.print_run.proofs.Laws.Steps.{run_is_one_pass}
 use Rattle.print_run.specs.Laws.Wholes.{none_run, run_within, bound_is_free, in_a_row, all_dropped}
@@ -71,7 +71,7 @@ left_over base s log h = ap (λ (c : Came). text_of (ended base log c)) (none_ru
 
 -- Behind a kind that is none it does not matter what follows.
 pub unknown_ends :
-    (base : ℕ) (s : State) (held more : List ℕ) → decode held 0 ≡ Unknown → left base s (held ++ more) ≡ left base s held
+    (base : ℕ) (s : State) (held more : List ℕ) → decode held 0 ≡ Err Unknown → left base s (held ++ more) ≡ left base s held
 unknown_ends base s held more e =
     let inside = unknown_inside held 0 e in
     let last = closing_by_kind base held 0 inside in

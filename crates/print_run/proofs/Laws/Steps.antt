@@ -1,5 +1,5 @@
 -- A run by steps is its whole records and the step that ends it. Paper 01, "The printed run". Assumes nothing.
-use Rattle.std.specs.Prelude.{◌≡◌, List, ℕ, suc, ◌+◌, ◌≤◌, leb, length}
+use Rattle.std.specs.Prelude.{◌≡◌, List, ℕ, suc, ◌+◌, ◌≤◌, leb, length, Ok, Err}
 use Rattle.std.proofs.Math.Path.{refl, ap}
 use Rattle.std.proofs.Common.{◌∙◌, arith, lt-ltb}
 use Rattle.std.proofs.Math.Bool.{true, false}
@@ -10,13 +10,12 @@ use Rattle.base.specs.Laws.Tests.{by_test, fails_right}
 use Rattle.answer.specs.Answer.{refusal_number}
 use Rattle.protocol.specs.Checks.{refusal, checks}
 use Rattle.protocol.proofs.Laws.Step.{checks_pass_record, step_of_sound, step_keeps_sound}
-use Rattle.record.specs.Record.{decode}
+use Rattle.record.specs.Record.{decode, Decoded}
 use Rattle.protocol.specs.Sound.{sound}
 use Rattle.broker.specs.State.{State}
 use Rattle.protocol.specs.Step.{apply, on_refusal, settle, step_sound, step, on_decoded}
 use Rattle.answer.specs.declared.Refusal.{Refusal}
-use Rattle.record.specs.declared.Decoded.{Decoded}
-use Rattle.record.specs.declared.Decoded.TheVariants.{Whole, Unknown, Cut}
+use Rattle.record.specs.declared.Fault.TheVariants.{Unknown, Cut}
 use Rattle.record.specs.declared.Record.{Record}
 use Rattle.print_run.proofs.Laws.Ending.{closing_at_end}
 use Rattle.print_run.specs.Laws.Wholes.{along, ahead}
@@ -40,15 +39,15 @@ module _ (s : State) (log : List ℕ) (at : ℕ) (h : sound s ≡ true) where
   step_read d e = step_of_sound s log at h ∙ rw e
 
   -- A record that was read whole leaves it sound.
-  pub settled_sound : (r : Record) (next : ℕ) → decode log at ≡ Whole r next → sound (settle r s).state ≡ true
-  settled_sound r next e = rw (step_read (Whole r next) e) at (step_keeps_sound s log at h)
+  pub settled_sound : (r : Record) (next : ℕ) → decode log at ≡ Ok (r, next) → sound (settle r s).state ≡ true
+  settled_sound r next e = rw (step_read (Ok (r, next)) e) at (step_keeps_sound s log at h)
 
   -- A whole record is one step, and the run goes on from what it leaves.
-  run_goes_on : (n : ℕ) (r : Record) (next : ℕ) → decode log at ≡ Whole r next →
+  run_goes_on : (n : ℕ) (r : Record) (next : ℕ) → decode log at ≡ Ok (r, next) →
       run_log (suc n) s log at ≡ ahead 0 log s at r (run_log n (settle r s).state log next)
   unfolding run_log
   run_goes_on n r next e =
-      rw (lt-ltb at (length log) (stands log at e).inside, step_read (Whole r next) e, goes_on r s, zero-add at)
+      rw (lt-ltb at (length log) (stands log at e).inside, step_read (Ok (r, next)) e, goes_on r s, zero-add at)
 
   -- Where none stands, the run ends.
   run_ends : (n : ℕ) → is_whole (decode log at) ≡ false →
@@ -58,9 +57,9 @@ module _ (s : State) (log : List ℕ) (at : ℕ) (h : sound s ≡ true) where
     where
       by : (d : Decoded) → decode log at ≡ d → is_whole d ≡ false → ltb at (length log) ≡ true →
           run_log (suc n) s log at ≡ record { state = s; at = at; answers = closing 0 log at }
-      by (Whole r next) e g t = cc
-      by Unknown e g t = rw (t, step_read Unknown e, e, zero-add at)
-      by Cut e g t = rw (t, step_read Cut e, e, zero-add at)
+      by (Ok (r, next)) e g t = cc
+      by (Err Unknown) e g t = rw (t, step_read (Err Unknown) e, e, zero-add at)
+      by (Err Cut) e g t = rw (t, step_read (Err Cut) e, e, zero-add at)
 
 module _ (log : List ℕ) where
   -- A run by steps leaves the state that the whole records leave, and where it is at its end it is the run in one pass.

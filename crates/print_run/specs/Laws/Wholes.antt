@@ -1,16 +1,16 @@
 -- Laws of the whole records of a log: where they end, one record more at either end, some of them and then the others, and a log of which
 -- the front is dropped. Assumes nothing.
-use Rattle.std.specs.Prelude.{◌≡◌, false, List, [], ◌∷◌, ◌++◌, length, drop}
+use Rattle.std.specs.Prelude.{◌≡◌, false, List, [], ◌∷◌, ◌++◌, length, drop, Result, Ok, Err}
 use Rattle.std.proofs.Math.Path.{refl, ap}
 use Rattle.std.proofs.Common.{sym, ◌∙◌, zero-add, arith, length-drop, get_or-drop}
 use Prim.Native.Nat.{ℕ, zero, suc, ◌+◌, ◌-◌, ◌≤◌}
 use Rattle.std.proofs.Math.ListN.{get_or-append}
-use Rattle.record.specs.Record.{decode}
+use Rattle.answer.specs.declared.Refusal.{Refusal}
+use Rattle.answer.specs.declared.Values.{Values}
+use Rattle.record.specs.Record.{decode, Decoded}
 use Rattle.broker.specs.State.{State}
 use Rattle.protocol.specs.Step.{settle}
-use Rattle.answer.specs.declared.Answer.{Answer}
-use Rattle.record.specs.declared.Decoded.{Decoded}
-use Rattle.record.specs.declared.Decoded.TheVariants.{Whole, Unknown, Cut}
+use Rattle.record.specs.declared.Fault.TheVariants.{Unknown, Cut}
 use Rattle.record.specs.declared.Record.{Record}
 use Rattle.record.specs.Laws.Record.{at_end_lem}
 use Rattle.print_run.specs.Laws.Window.{moved, moved_same, stands, whole_stays, decode_dropped}
@@ -27,7 +27,7 @@ module _ (base : ℕ) (log : List ℕ) where
       (P : ℕ → State → ℕ → Came → Type 0)
       (no_steps : (s : State) (at : ℕ) → P 0 s at (standing s at))
       (no_record : (n : ℕ) (s : State) (at : ℕ) → is_whole (decode log at) ≡ false → P (suc n) s at (standing s at))
-      (one_more : (n : ℕ) (s : State) (at : ℕ) (r : Record) (next : ℕ) → decode log at ≡ Whole r next → (c : Came) →
+      (one_more : (n : ℕ) (s : State) (at : ℕ) (r : Record) (next : ℕ) → decode log at ≡ Ok (r, next) → (c : Came) →
       P n (settle r s).state next c → P (suc n) s at (ahead s at r c))
     where
       pub along : (n : ℕ) (s : State) (at : ℕ) → P n s at (wholes base n s log at)
@@ -37,9 +37,9 @@ module _ (base : ℕ) (log : List ℕ) where
         where
           by : (d : Decoded) → decode log at ≡ d → ((t : State) (k : ℕ) → P n t k (wholes base n t log k)) →
               P (suc n) s at (on_read base s log at (λ t k. wholes base n t log k) d)
-          by (Whole r next) e later = one_more n s at r next e _ (later (settle r s).state next)
-          by Unknown e later = no_record n s at (ap is_whole e)
-          by Cut e later = no_record n s at (ap is_whole e)
+          by (Ok (r, next)) e later = one_more n s at r next e _ (later (settle r s).state next)
+          by (Err Unknown) e later = no_record n s at (ap is_whole e)
+          by (Err Cut) e later = no_record n s at (ap is_whole e)
 
   -- Where no whole record stands, none is run.
   pub none_run : (n : ℕ) (s : State) (at : ℕ) → is_whole (decode log at) ≡ false → wholes base n s log at ≡ standing s at
@@ -48,7 +48,7 @@ module _ (base : ℕ) (log : List ℕ) where
       (λ n s at r next e c later h. cc (ap is_whole e))
 
   -- A whole record is run first.
-  pub one_first : (n : ℕ) (s : State) (at : ℕ) {r : Record} {next : ℕ} → decode log at ≡ Whole r next →
+  pub one_first : (n : ℕ) (s : State) (at : ℕ) {r : Record} {next : ℕ} → decode log at ≡ Ok (r, next) →
       wholes base (suc n) s log at ≡ ahead s at r (wholes base n (settle r s).state log next)
   unfolding wholes
   one_first n s at e = rw e
@@ -79,11 +79,11 @@ module _ (base : ℕ) (log : List ℕ) where
       record { state = x.state; at = next; answers = c.answers ++ (answered_at base log c.at x.answer ∷ []) }
 
   -- A whole record is run last.
-  pub one_last : (n : ℕ) (s : State) (at : ℕ) (r : Record) (next : ℕ) → decode log (wholes base n s log at).at ≡ Whole r next →
+  pub one_last : (n : ℕ) (s : State) (at : ℕ) (r : Record) (next : ℕ) → decode log (wholes base n s log at).at ≡ Ok (r, next) →
       wholes base (suc n) s log at ≡ further (wholes base n s log at) r next
   unfolding wholes
   one_last n s at r next =
-      along (λ n s at c. decode log c.at ≡ Whole r next → wholes base (suc n) s log at ≡ further c r next)
+      along (λ n s at c. decode log c.at ≡ Ok (r, next) → wholes base (suc n) s log at ≡ further c r next)
       (λ s at e. one_first 0 s at e)
       (λ n s at none e. cc)
       (λ n s at q k d c later e. one_first (suc n) s at d ∙ ap (ahead s at q) (later e))
@@ -112,7 +112,7 @@ moved_by k c = record { state = c.state; at = k + c.at; answers = c.answers }
 
 -- The front of a log, where it is dropped, moves what the other records come to, and no more.
 module _ (base : ℕ) (log : List ℕ) (k : ℕ) (room : k ≤ length log) where
-  answered_dropped : (at : ℕ) (a : Answer) → answered_at base log (k + at) a ≡ answered_at (base + k) (drop k log) at a
+  answered_dropped : (at : ℕ) (a : Result Values Refusal) → answered_at base log (k + at) a ≡ answered_at (base + k) (drop k log) at a
   answered_dropped at a = let place : base + (k + at) ≡ base + k + at = omega arith in rw (place, get_or-drop)
 
   pub wholes_dropped :

@@ -1,14 +1,13 @@
 -- Laws of a turn: what stands at the front of the buffer behind a piece, and what the page shows, by what is next. Assumes nothing.
-use Rattle.std.specs.Prelude.{Bool, true, false, List, [], ◌++◌, ◌≡◌, refl, ℕ, ◌+◌, ◌≤◌, ◌<◌, ltb, length, take, drop, get_or}
+use Rattle.std.specs.Prelude.{Bool, true, false, List, [], ◌++◌, ◌≡◌, refl, ℕ, ◌+◌, ◌≤◌, ◌<◌, ltb, length, take, drop, get_or, Ok, Err}
 use Rattle.std.proofs.Common.{append_assoc, append-nil, ap, sym, ◌∙◌, add-zero, arith, ltb-true, length-take-le}
 use Rattle.base.specs.Laws.Below.{all_below_at}
 use Rattle.print_page.specs.Laws.Put.{shows}
 use Rattle.print_page.specs.Put.{Put}
 use Rattle.record.specs.Laws.Record.{kind_most}
-use Rattle.record.specs.Record.{is_kind, bodies, body_length, decode}
+use Rattle.record.specs.Record.{is_kind, bodies, body_length, decode, Decoded}
 use Rattle.broker.specs.State.{State}
-use Rattle.record.specs.declared.Decoded.{Decoded}
-use Rattle.record.specs.declared.Decoded.TheVariants.{Whole, Unknown, Cut}
+use Rattle.record.specs.declared.Fault.TheVariants.{Unknown, Cut}
 use Rattle.print_buffer.specs.Buffer.{Kept}
 use Rattle.print_last.specs.Last.{ending_room}
 use Rattle.print_run.proofs.Laws.Pieces.{piece_first, left_over, unknown_ends}
@@ -33,18 +32,18 @@ body_short k h =
     (all_below_at (length bodies) (λ k. ltb (body_length k) longest) refl k (omega (arith, kind_most k h)))
 
 -- A record that is cut is shorter than the longest one.
-cut_is_short : (log : List ℕ) → decode log 0 ≡ Cut → length log < longest
+cut_is_short : (log : List ℕ) → decode log 0 ≡ Err Cut → length log < longest
 cut_is_short log e = by (seen log 0 e)
   where
-    by : Seen log 0 Cut → length log < longest
+    by : Seen log 0 (Err Cut) → length log < longest
     by (seen_cut inside kind short) = omega (arith, body_short (get_or log 0 0) kind)
     by (seen_end past) = omega arith
 
 -- What is no whole record is the same so many bytes further on.
 unmoved : (k : ℕ) (d : Decoded) {e : Decoded} → moved k d ≡ e → is_whole e ≡ false → d ≡ e
-unmoved k (Whole r next) same none = cc (ap is_whole same)
-unmoved k Unknown same none = same
-unmoved k Cut same none = same
+unmoved k (Ok (r, next)) same none = cc (ap is_whole same)
+unmoved k (Err Unknown) same none = same
+unmoved k (Err Cut) same none = same
 
 -- What was left to print, whatever follows a piece, is the lines of its answers and what is left then.
 piece_shows :

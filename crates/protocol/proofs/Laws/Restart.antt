@@ -1,10 +1,11 @@
 -- A restart, which is a move of a rank to the host where it runs: it is accepted like any other move and draws a number; and no answer has
 -- the number 18. Paper 02, change 2. Assumes nothing.
-use Rattle.std.specs.Prelude.{true, false, ◌&&◌, List, ◌≡◌, refl, ℕ, ◌+◌, ◌<◌, eqb, ltb}
+use Rattle.std.specs.Prelude.{true, false, ◌&&◌, List, ◌≡◌, refl, ℕ, ◌+◌, ◌<◌, eqb, ltb, Result, Ok, Err}
 use Rattle.std.proofs.Math.Bool.{and-false}
 use Rattle.std.proofs.Math.Option.{none}
 use Rattle.std.proofs.Common.{arith, ne_eqb, lt-ltb, ltb-true}
 use Rattle.std.proofs.lemmas.Bool.{eqb-false, lt-leb}
+use Rattle.answer.specs.declared.Values.{Values}
 use Rattle.base.specs.Laws.Tests.{both_left}
 use Rattle.transit.specs.Message.{ranks}
 use Rattle.transit.specs.declared.Rank.{Rank}
@@ -21,8 +22,6 @@ use Rattle.record.specs.Record.{decode}
 use Rattle.protocol.specs.Sound.{sound, is_drawn}
 use Rattle.broker.specs.State.{State, status, request, drawn_on, next_vmid}
 use Rattle.protocol.specs.Step.{apply, step}
-use Rattle.answer.specs.declared.Answer.{Answer}
-use Rattle.answer.specs.declared.Answer.TheVariants.{Accepted, Refused}
 use Rattle.answer.specs.declared.Refusal.{Refusal}
 use Rattle.answer.specs.declared.Refusal.TheVariants.{
   Unsound,
@@ -53,7 +52,6 @@ use Rattle.answer.specs.declared.Refusal.TheVariants.{
 }
 use Rattle.broker.specs.declared.process.Status.TheVariants.{Running}
 use Rattle.broker.specs.declared.process.Vmid.{Vmid}
-use Rattle.record.specs.declared.Decoded.TheVariants.{Whole}
 use Rattle.record.specs.declared.Record.TheVariants.{Move}
 
 -- "Number 18 is given no more": no refusal has it, and so no answer.
@@ -84,10 +82,10 @@ no_refusal Full = refl
 no_refusal NumbersSpent = refl
 no_refusal SequenceSpent = refl
 
-pub never_eighteen : (answer : Answer) → NeverEighteen answer
+pub never_eighteen : (answer : Result Values Refusal) → NeverEighteen answer
 unfolding NeverEighteen
-never_eighteen (Accepted v) = eqb-false 0 18 refl
-never_eighteen (Refused n) = eqb-false (refusal_number n) 18 (no_refusal n)
+never_eighteen (Ok v) = eqb-false 0 18 refl
+never_eighteen (Err n) = eqb-false (refusal_number n) 18 (no_refusal n)
 
 -- "like any other": of two hosts with numbers left, a move of a rank to the one is refused as one to the other, wherever the rank runs.
 pub like_any_other :
@@ -125,7 +123,7 @@ module _ (s : State) (r : Rank) (v : Vmid) (ok : sound s ≡ true) (in_range : r
 
     -- and carried out as a move: "the arrival gets h's next number"
     pub restart_carried_out :
-        (log : List ℕ) (at next : ℕ) → decode log at ≡ Whole (Move r v.0) next →
+        (log : List ℕ) (at next : ℕ) → decode log at ≡ Ok (Move r v.0, next) →
         step s log at ≡ carried (move r v.0 s) next
     unfolding apply
     restart_carried_out log at next read = step_accepted s log at _ next ok read restart_accepted

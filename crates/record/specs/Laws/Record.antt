@@ -1,32 +1,32 @@
 -- Laws of a record at a position: what stands there, by the tests that are made, and that the four bytes of a value give it back.
 -- Assumes nothing.
-use Rattle.std.specs.Prelude.{◌≡◌, true, false, List, ℕ, ◌+◌, ◌*◌, ◌/◌, ◌%◌, ◌^◌, ◌<◌, ◌≤◌, leb, get_or, length, take, drop}
+use Rattle.std.specs.Prelude.{◌≡◌, true, false, List, ℕ, ◌+◌, ◌*◌, ◌/◌, ◌%◌, ◌^◌, ◌<◌, ◌≤◌, leb, get_or, length, take, drop, Ok, Err}
 use Rattle.std.proofs.Common.{sym, ◌∙◌, mod-eq_of_lt, arith, length-drop, length-take-le, get_or-take, get_or-drop, ext_get_or}
 use Rattle.std.proofs.Math.Nat.{div-div-eq-div-mul}
 use borrow.Author.Tests.{lt-ltb, le-ltb, le-leb, lt-leb, leb-true}
 use Rattle.base.specs.Laws.Tests.{both_left, both_right}
 use Rattle.record.specs.Record.{table, is_kind, body_length, record_of, body_at, decode, value_of, bytes_of}
-use Rattle.record.specs.declared.Decoded.TheVariants.{Whole, Unknown, Cut}
+use Rattle.record.specs.declared.Fault.TheVariants.{Unknown, Cut}
 
 -- What stands at a position, by the tests that are made there.
 module _ (log : List ℕ) (at : ℕ) where
-  pub at_end_lem : length log ≤ at → decode log at ≡ Cut
+  pub at_end_lem : length log ≤ at → decode log at ≡ Err Cut
   unfolding decode
   at_end_lem h = rw (le-ltb at (length log) h)
 
-  pub no_kind : at < length log → is_kind (get_or log at 0) ≡ false → decode log at ≡ Unknown
+  pub no_kind : at < length log → is_kind (get_or log at 0) ≡ false → decode log at ≡ Err Unknown
   unfolding decode
   no_kind h k = rw (lt-ltb at (length log) h, k)
 
   pub cut_short :
       at < length log → is_kind (get_or log at 0) ≡ true →
-      length log < at + 1 + body_length (get_or log at 0) → decode log at ≡ Cut
+      length log < at + 1 + body_length (get_or log at 0) → decode log at ≡ Err Cut
   unfolding decode
   cut_short h k l = rw (lt-ltb at (length log) h, k, lt-leb (at + 1 + body_length (get_or log at 0)) (length log) l)
 
   pub whole :
       at < length log → is_kind (get_or log at 0) ≡ true → at + 1 + body_length (get_or log at 0) ≤ length log →
-      decode log at ≡ Whole (record_of (get_or log at 0) (body_at log at)) (at + 1 + body_length (get_or log at 0))
+      decode log at ≡ Ok (record_of (get_or log at 0) (body_at log at), at + 1 + body_length (get_or log at 0))
   unfolding decode
   whole h k l = rw (lt-ltb at (length log) h, k, le-leb (at + 1 + body_length (get_or log at 0)) (length log) l)
 

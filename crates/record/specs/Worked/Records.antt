@@ -1,10 +1,9 @@
 -- A record of each kind, read from a log: how long its body is, what it names, and that it is cut where a byte is missing. Paper 01, "The
 -- step log". Computed from the definitions. Assumes nothing.
-use Rattle.std.specs.Prelude.{◌≡◌, refl, List, [], ◌∷◌, ◌++◌, ℕ, ◌+◌, take, get_or}
+use Rattle.std.specs.Prelude.{◌≡◌, refl, List, [], ◌∷◌, ◌++◌, ℕ, ◌+◌, take, get_or, Ok, Err}
 use Rattle.transit.specs.Message.{rank}
-use Rattle.record.specs.Record.{body_length, record_of, decode}
-use Rattle.record.specs.declared.Decoded.{Decoded}
-use Rattle.record.specs.declared.Decoded.TheVariants.{Whole, Cut}
+use Rattle.record.specs.Record.{body_length, record_of, Decoded, decode}
+use Rattle.record.specs.declared.Fault.TheVariants.{Cut}
 use Rattle.record.specs.declared.Record.{Record}
 use Rattle.record.specs.declared.Record.TheVariants.{Start, Call, Route, Send, Take, Move, Heed, Drain, Land, Part, End, Look}
 
@@ -27,7 +26,7 @@ read log =
 
 -- a record with a body so long: the position passes the kind and the body, and with one byte less it is cut
 abbrev pub wholly : Record → ℕ → Read
-wholly r body = record { body = body; alone = Whole r (1 + body); between = Whole r (2 + body); short = Cut }
+wholly r body = record { body = body; alone = Ok (r, 1 + body); between = Ok (r, 2 + body); short = Err Cut }
 
 pub start_is_read : read (0x01 ∷ 3 ∷ 5 ∷ []) ≡ wholly (Start (rank 3) 5) 2
 unfolding decode record_of

@@ -17,17 +17,17 @@ pub returns-then-not-load-clause-never_eighteen : goal.returns-then-not-load-cla
 returns-then-not-load-clause-never_eighteen c = never_eighteen _
 
 -- A sound state is stepped on the arrays: it stays as it was,
-pub returns-in-Refused-clause-result_value : goal.returns-in-Refused-clause-result_value
-returns-in-Refused-clause-result_value c =
+pub returns-in-Err-clause-result_value : goal.returns-in-Err-clause-result_value
+returns-in-Err-clause-result_value c =
     let passed = c.if-not-load.false in
     let stepped =
     stepped_in_place (view c.args.broker) (sym c.load.ensures.tells ∙ passed) (c.load.ensures.holds passed)
     c.step_in_place-reply.ensures.steps_in_place in
-    refused_step (view c.args.broker) c.args.log.now c.args.at _ _ c.in-Refused.is stepped
+    refused_step (view c.args.broker) c.args.log.now c.args.at _ _ c.in-Err.is stepped
 
 -- or comes back from them.
-pub returns-in-Accepted-clause-result_value : goal.returns-in-Accepted-clause-result_value
-returns-in-Accepted-clause-result_value c =
+pub returns-in-Ok-clause-result_value : goal.returns-in-Ok-clause-result_value
+returns-in-Ok-clause-result_value c =
     let passed = c.if-not-load.false in
     let stepped =
     stepped_in_place (view c.args.broker) (sym c.load.ensures.tells ∙ passed) (c.load.ensures.holds passed)
