@@ -7,7 +7,7 @@ ghost use Rattle.broker.specs.State.{view};
 ghost use Rattle.protocol.specs.Step.{step};
 ghost use Rattle.steps.specs.Outcome.{outcome, RefusalKeeps};
 
-use answer::{number_of, values_of};
+use answer::{Values, number_of, values_of};
 use broker::state::Broker;
 use std::io;
 use steps::Outcome;
@@ -21,18 +21,14 @@ fn step_by_lending(mut broker: Broker, log: &[u8], at: usize) -> Outcome
 {
     let reply = step_lent(&mut broker, log, at);
     Outcome {
-        broker: broker,
+        broker,
         answer: reply.answer,
         next: reply.next,
     }
 }
 
-// The answer's number, 0 where the step is accepted, and its first value.
-fn tell(rt: &impl Print, number: u8, value: u64) -> io::Result<()> {
-    println!(rt; "{number} {value}")
-}
-
-// The log has the records start 0 0, start 1 1, call 0 1, route 0 1, send 0 1 500, take 1 0 and land 1.
+// The log has the records start 0 0, start 1 1, call 0 1, route 0 1, send 0 1 500, take 1 0 and land 1. Printed of each answer are its
+// number, 0 where the step is accepted, and its first value.
 fn main(rt: HostRuntime) -> io::Result<()> {
     let log =
         b"\x01\x00\x00\x01\x01\x01\x02\x00\x01\x03\x00\x01\x04\x00\x01\xF4\x01\x00\x00\x05\x01\x00\x09\x01";
@@ -40,15 +36,13 @@ fn main(rt: HostRuntime) -> io::Result<()> {
     let mut at: usize = 0;
     while at < log.len() {
         let done = step_by_lending(broker, log, at);
-        let answer = done.answer;
-        let values = values_of(answer);
-        tell(&rt, number_of(answer), values.0 as u64)?;
-        let next = done.next;
-        if next <= at {
+        let Values(first, _, _) = values_of(done.answer);
+        println!(rt; "{} {first}", number_of(done.answer))?;
+        if done.next <= at {
             break;
         }
         broker = done.broker;
-        at = next;
+        at = done.next;
     }
     Ok(())
 }

@@ -3,57 +3,49 @@
 // calls answered is added up and printed, so that none of them can be left out.
 #![tactic(auto)]
 
-ghost use Rattle.std.specs.Prelude.{◌≡◌, ◌≤◌, length};
-ghost use Rattle.answer.specs.Answer.{NeverEighteen};
-ghost use Rattle.broker.specs.State.{view};
-ghost use Rattle.protocol.specs.Step.{step};
 ghost use Rattle.desk.specs.Desk.{IsDesk};
-ghost use Rattle.steps.specs.Outcome.{outcome, RefusalKeeps};
 
 use answer::{Answer, number_of, values_of};
 use broker::state::Broker;
 use roster::{ROSTER_LENGTH, Roster};
 use soundness::is_sound;
 use std::io;
-use std::io::{Read, Stdin};
+use std::io::Cursor;
 use steps::{Outcome, step};
-use steps_in_place::step_in_place;
+use steps_in_place::{Reply, step_in_place};
 use steps_lent::step_lent;
 use steps_load::{open_fresh, unload};
 use transit::{CONTENTS_LENGTH, Contents, SLOTS_LENGTH, Slots};
 
-// The byte that asks for steps by value.
-const BY_VALUE: u8 = 1;
+// The call that is made, by the byte that asks for it.
+#[derive(Clone, Copy, PartialEq, Eq)]
+enum Call {
+    // A step by value.
+    ByValue,
+    // A step of a lent state.
+    Lent,
+    // A test of soundness.
+    Tested,
+    // A step in place.
+    InPlace,
+}
 
-// The byte that asks for steps of a lent state.
-const LENT: u8 = 2;
+impl TryFrom<u8> for Call {
+    type Error = ();
 
-// The byte that asks for tests of soundness.
-const TESTED: u8 = 3;
-
-// The byte that asks for steps in place.
-const IN_PLACE: u8 = 4;
+    fn try_from(byte: u8) -> Result<Call, ()> {
+        match byte {
+            1 => Ok(Call::ByValue),
+            2 => Ok(Call::Lent),
+            3 => Ok(Call::Tested),
+            4 => Ok(Call::InPlace),
+            _ => Err(()),
+        }
+    }
+}
 
 // So many bytes of the input are read.
 const ROOM: usize = 65536;
-
-// So many bytes stand before the log.
-const HEAD: usize = 5;
-
-// Fills a buffer from the input, up to its end or a read that fails, and tells how many bytes it then has.
-fn fill(mut input: Stdin, buffer: &mut [u8]) -> usize
-    ensures { result ≤ length buffer.new }
-{
-    let mut held: usize = 0;
-    while held < buffer.len() {
-        match input.read(&mut buffer[held..]) {
-            Ok(0) => return held,
-            Ok(count) => held += count,
-            Err(_) => return held,
-        }
-    }
-    held
-}
 
 // The log is run in place, up to where no record stands.
 fn lead(log: &[u8], slots: &mut Slots, contents: &mut Contents, roster: &mut Roster)
@@ -63,11 +55,10 @@ fn lead(log: &[u8], slots: &mut Slots, contents: &mut Contents, roster: &mut Ros
     let mut at: usize = 0;
     while at < log.len() {
         let done = step_in_place(log, at, slots, contents, roster);
-        let next = done.next;
-        if next <= at {
+        if done.next <= at {
             return;
         }
-        at = next;
+        at = done.next;
     }
 }
 
@@ -78,42 +69,24 @@ fn told(answer: Answer) -> u64 {
 }
 
 // A step by lending: the state is lent to the step, and then handed back.
-fn step_by_lending(mut broker: Broker, log: &[u8], at: usize) -> Outcome
-    ensures result_value { outcome result ≡ step (view broker) log.now at }
-    ensures refused_unchanged { RefusalKeeps result.answer broker result.broker }
-    ensures never_eighteen { NeverEighteen result.answer }
-{
-    let reply = step_lent(&mut broker, log, at);
+fn step_by_lending(mut broker: Broker, log: &[u8], at: usize) -> Outcome {
+    let Reply { answer, next } = step_lent(&mut broker, log, at);
     Outcome {
-        broker: broker,
-        answer: reply.answer,
-        next: reply.next,
-    }
-}
-
-// A step in the way that is asked for.
-fn step_by(call: u8, broker: Broker, log: &[u8], at: usize) -> Outcome
-    ensures { outcome result ≡ step (view broker) log.now at }
-{
-    if call == LENT {
-        step_by_lending(broker, log, at)
-    } else {
-        step(broker, log, at)
+        broker,
+        answer,
+        next,
     }
 }
 
 // Steps, each a look of rank 0, which leaves the state as it is.
-fn looks(call: u8, start: Broker, times: u32) -> u64 {
-    let look = b"\x0C\x00";
-    let mut broker = start;
+fn looks<F: Fn(Broker, &[u8], usize) -> Outcome>(step: F, mut broker: Broker, times: u32) -> u64
+    requires { F.IsAlwaysCallable step }
+{
     let mut sum: u64 = 0;
-    let mut turn: u32 = 0;
-    while turn < times {
-        let done = step_by(call, broker, look, 0);
-        let answer = done.answer;
+    for _ in 0..times {
+        let done = step(broker, b"\x0C\x00", 0);
         broker = done.broker;
-        sum = sum.wrapping_add(told(answer));
-        turn += 1;
+        sum = sum.wrapping_add(told(done.answer));
     }
     sum
 }
@@ -127,14 +100,10 @@ fn looks_in_place(
 ) -> u64
     requires { IsDesk slots.old contents.old roster.old }
 {
-    let look = b"\x0C\x00";
     let mut sum: u64 = 0;
-    let mut turn: u32 = 0;
-    while turn < times {
-        let done = step_in_place(look, 0, slots, contents, roster);
-        let answer = done.answer;
-        sum = sum.wrapping_add(told(answer));
-        turn += 1;
+    for _ in 0..times {
+        let done = step_in_place(b"\x0C\x00", 0, slots, contents, roster);
+        sum = sum.wrapping_add(told(done.answer));
     }
     sum
 }
@@ -142,46 +111,33 @@ fn looks_in_place(
 // Tests of soundness: how many found the state sound.
 fn tests(broker: Broker, times: u32) -> u64 {
     let mut sum: u64 = 0;
-    let mut turn: u32 = 0;
-    while turn < times {
-        if is_sound(broker) {
-            sum = sum.wrapping_add(1);
-        }
-        turn += 1;
+    for _ in 0..times {
+        sum = sum.wrapping_add(is_sound(broker) as u64);
     }
     sum
 }
 
-// The number in four bytes, least significant first.
-fn number(a: u8, b: u8, c: u8, d: u8) -> u32 {
-    a as u32 + b as u32 * 256 + c as u32 * 65536 + d as u32 * 16777216
-}
-
 // A byte that asks for none of the calls has only the log run.
 fn main(rt: HostRuntime) -> io::Result<()> {
-    let mut text = [0u8; ROOM];
-    let end = fill(rt.stdin(), &mut text);
-    let input = &text[..end];
-    if input.len() < HEAD {
+    let mut room = Cursor::new([0u8; ROOM]);
+    let _ = io::copy(&mut rt.stdin(), &mut room);
+    let end = (room.position() as usize).min(ROOM);
+    let [call, t0, t1, t2, t3, log @ ..] = &room.get_ref()[..end] else {
         return Ok(());
-    }
-    let call = input[0];
-    let times = number(input[1], input[2], input[3], input[4]);
+    };
+    let times = u32::from_le_bytes([*t0, *t1, *t2, *t3]);
     let mut slots = [0u16; SLOTS_LENGTH];
     let mut contents = [0u32; CONTENTS_LENGTH];
     let mut roster = [0u64; ROSTER_LENGTH];
     open_fresh(&mut slots, &mut contents, &mut roster);
-    lead(&input[HEAD..], &mut slots, &mut contents, &mut roster);
+    lead(log, &mut slots, &mut contents, &mut roster);
     let broker = unload(Broker::fresh(), &slots, &contents, &roster);
-    let mut sum: u64 = 0;
-    if call == BY_VALUE || call == LENT {
-        sum = looks(call, broker, times);
-    }
-    if call == TESTED {
-        sum = tests(broker, times);
-    }
-    if call == IN_PLACE {
-        sum = looks_in_place(times, &mut slots, &mut contents, &mut roster);
-    }
+    let sum = match Call::try_from(*call) {
+        Ok(Call::ByValue) => looks(step, broker, times),
+        Ok(Call::Lent) => looks(step_by_lending, broker, times),
+        Ok(Call::Tested) => tests(broker, times),
+        Ok(Call::InPlace) => looks_in_place(times, &mut slots, &mut contents, &mut roster),
+        Err(()) => 0,
+    };
     println!(rt; "{sum}")
 }

@@ -5,20 +5,14 @@
 use generator_draw::draw;
 use std::io;
 
-// The word that is drawn behind a word, behind a space.
-fn print_draw(rt: &impl Print, word: u32) -> io::Result<u32> {
-    let drawn = draw(word);
-    print!(rt; " {drawn}")?;
-    Ok(drawn)
-}
-
 // A seed and the four words that are drawn from it, in a line.
 fn print_draws(rt: &impl Print, seed: u32) -> io::Result<()> {
     print!(rt; "{seed}:")?;
-    let first = print_draw(rt, seed)?;
-    let second = print_draw(rt, first)?;
-    let third = print_draw(rt, second)?;
-    print_draw(rt, third)?;
+    let mut word = seed;
+    for _ in 0..4 {
+        word = draw(word);
+        print!(rt; " {word}")?;
+    }
     println!(rt)
 }
 
