@@ -2,7 +2,6 @@
 -- Paper 01, "Names and places" and "What the contracts carry". Assumes nothing.
 use Rattle.std.specs.Prelude.{true, List, ◌≡◌, ℕ, ⊤, Result}
 use Rattle.transit.specs.Mail.{IsMail, unread_in}
-use Rattle.transit.specs.Unread.{Unread}
 use Rattle.protocol.specs.Checks.{refusal}
 use Rattle.protocol.specs.Done.{Done}
 use Rattle.protocol.specs.Sound.{sound}
@@ -35,12 +34,6 @@ Judges r s v = verdict_of v ≡ refusal s r
 abbrev pub Does : (State → Done) → State → Values → State → Type 0
 Does f s v s' = record { state = s'; values = v } ≡ f s
 
--- a change that needs no messages, whatever is unread
-pub record RosterDoes (f : State → Done) (roster : List ℕ) (v : Values) (roster' : List ℕ) : Type 0 where
-  pub long : Whole roster'
-  pub does : (u : Unread) → Does f (with_unread u (ranks_of roster)) v (with_unread u (ranks_of roster'))
-
--- a change of the whole desk, where it was sound
-pub record DeskDoes (f : State → Done) (slots contents roster : List ℕ) (v : Values) (slots' contents' roster' : List ℕ) : Type 0 where
-  pub kept : IsDesk slots' contents' roster'
-  pub does : sound (desk_of slots contents roster) ≡ true → Does f (desk_of slots contents roster) v (desk_of slots' contents' roster')
+-- where the desk was sound, the values and the state afterwards are those of the definition
+abbrev pub DeskDoes : (State → Done) → Desk → Values → Desk → Type 0
+DeskDoes f d v d' = sound (state_of d) ≡ true → Does f (state_of d) v (state_of d')

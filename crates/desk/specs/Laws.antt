@@ -1,3 +1,2 @@
 -- Laws of the definitions that the contracts cite.
-pub mod Desk
 pub mod Settled

@@ -7,13 +7,14 @@ ghost use Rattle.protocol.specs.Connect.{call};
 ghost use Rattle.broker.specs.State.{with_unread};
 ghost use Rattle.record.specs.declared.Record.{Record};
 ghost use Rattle.roster.specs.Roster.{ranks_of, Whole};
-ghost use Rattle.desk.specs.Desk.{RosterDoes, Judges};
+ghost use Rattle.desk.specs.Desk.{DeskDoes, Judges};
 ghost use Rattle.verdict.specs.Verdict.{verdict_of, passed, judged};
 ghost use Rattle.kind_call.specs.Tests.{call_tests};
 
 use answer::{Refusal, Values};
 use broker::link::Connection;
 use broker::process::{Request, Status};
+use desk::Desk;
 use roster::Roster;
 use roster_read::{link_between, location_of, request_of, standing_of};
 use roster_write::set_request;
@@ -49,11 +50,11 @@ pub fn call_verdict(a: Rank, b: Rank, roster: &Roster) -> Verdict
 }
 
 // `a`'s call opens, posted to its entry for `b`.
-pub fn call(a: Rank, b: Rank, roster: &mut Roster) -> Values
-    requires { Whole roster.old }
-    ensures { RosterDoes (call a b) roster.old result roster.new }
+#[tactic(auto, unfolding(protocol::specs::Connect::call))]
+pub fn call(a: Rank, b: Rank, desk: &mut Desk) -> Values
+    ensures { DeskDoes (call a b) desk.old result desk.new }
 {
-    let vmid = location_of(a, b, roster);
-    set_request(a, Some(Request { to: b, vmid }), roster);
+    let vmid = location_of(a, b, &desk.roster);
+    set_request(a, Some(Request { to: b, vmid }), &mut desk.roster);
     Values(vmid.0 as Value, vmid.1 as Value, 0)
 }

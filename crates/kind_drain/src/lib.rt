@@ -12,6 +12,7 @@ ghost use Rattle.kind_drain.specs.Tests.{drain_tests};
 use answer::{Refusal, Values};
 use broker::link::Backlog;
 use broker::process::Status;
+use desk::Desk;
 use roster::Roster;
 use roster_read::{link_between, standing_of};
 use roster_write::awaiting;
@@ -56,26 +57,25 @@ pub fn drain_verdict(
 }
 
 // `r`'s source process reads what stands first on its channel from `p`: a message, or the end marker.
-pub fn drain(
-    r: Rank,
-    p: Rank,
-    slots: &mut Slots,
-    contents: &Contents,
-    roster: &mut Roster,
-) -> Values
-    requires desk { IsDesk slots.old contents.now roster.old }
-    requires r_lt_ranks { (r.0 < ranks) × (p.0 < ranks) }
-    ensures { DeskDoes (drain r p) slots.old contents.now roster.old result slots.new
-        contents.now roster.new }
+#[tactic(auto, using(crate::specs::Laws::Done::drain_message, crate::specs::Laws::Done::drain_marker))]
+pub fn drain(r: Rank, p: Rank, desk: &mut Desk) -> Values
+    requires { (r.0 < ranks) × (p.0 < ranks) }
+    ensures { DeskDoes (drain r p) desk.old result desk.new }
 {
-    let found = first_at(p, r, Place::SourceChannel, slots, contents);
-    match found {
+    let mail = &mut desk.mail;
+    match first_at(p, r, Place::SourceChannel, &mail.slots, &mail.contents) {
         Some(m) => {
-            relabel_first(p, r, Place::SourceChannel, Place::SourceList, slots);
+            relabel_first(
+                p,
+                r,
+                Place::SourceChannel,
+                Place::SourceList,
+                &mut mail.slots,
+            );
             Values(0, m.value, m.sequence as Value)
         }
         None => {
-            awaiting(r, p, Backlog::Clear, roster);
+            awaiting(r, p, Backlog::Clear, &mut desk.roster);
             Values(1, 0, 0)
         }
     }

@@ -6,12 +6,13 @@ ghost use Rattle.transit.specs.Mail.{IsMail};
 ghost use Rattle.protocol.specs.Life.{end};
 ghost use Rattle.record.specs.declared.Record.{Record};
 ghost use Rattle.roster.specs.Roster.{Whole};
-ghost use Rattle.desk.specs.Desk.{desk_of, RosterDoes, Judges};
+ghost use Rattle.desk.specs.Desk.{desk_of, DeskDoes, Judges};
 ghost use Rattle.verdict.specs.Verdict.{verdict_of, passed, judged};
 ghost use Rattle.kind_end.specs.Tests.{end_tests};
 
 use answer::{Refusal, Values};
 use broker::process::{Request, Status};
+use desk::Desk;
 use roster::Roster;
 use roster_awaits::alone;
 use roster_read::{request_of, standing_of};
@@ -49,12 +50,11 @@ pub fn end_verdict(r: Rank, slots: &Slots, contents: &Contents, roster: &Roster)
 }
 
 // `r` is ended, and keeps its last vmid.
-pub fn end(r: Rank, roster: &mut Roster) -> Values
-    requires { Whole roster.old }
-    ensures { RosterDoes (end r) roster.old result roster.new }
+#[tactic(auto, unfolding(protocol::specs::Life::end))]
+pub fn end(r: Rank, desk: &mut Desk) -> Values
+    ensures { DeskDoes (end r) desk.old result desk.new }
 {
-    let standing = standing_of(r, roster);
-    let last = standing.endpoint();
-    set_standing(r, Status::Ended(last), roster);
+    let last = standing_of(r, &desk.roster).endpoint();
+    set_standing(r, Status::Ended(last), &mut desk.roster);
     Values(0, 0, 0)
 }

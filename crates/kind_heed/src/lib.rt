@@ -1,8 +1,7 @@
 // Heed: its checks in the paper's order, and what it does where none applies. Paper 01, "The step log", kind 07.
 #![tactic(auto)]
 
-ghost use Rattle.std.specs.Prelude.{List, ◌≡◌, ℕ, ◌<◌};
-ghost use Rattle.transit.specs.Mail.{IsMail};
+ghost use Rattle.std.specs.Prelude.{◌≡◌, ◌<◌};
 ghost use Rattle.transit.specs.Message.{ranks};
 ghost use Rattle.transit.specs.Unread.{Unread};
 ghost use Rattle.protocol.specs.Migrate.{heed};
@@ -16,10 +15,11 @@ ghost use Rattle.kind_heed.specs.Tests.{heed_tests};
 use answer::{Refusal, Values, widened};
 use broker::link::{Backlog, Connection};
 use broker::process::Status;
+use desk::Desk;
 use roster::Roster;
 use roster_read::{link_between, standing_of};
 use roster_write::{awaiting, connect};
-use transit::{Place, Rank, Slots};
+use transit::{Place, Rank};
 use transit_relabel::relabel_between;
 use verdict::{Verdict, refuse_if, two_ranks};
 
@@ -43,14 +43,12 @@ pub fn heed_verdict(b: Rank, r: Rank, roster: &Roster) -> Verdict
 }
 
 // `b` reads what is on its channel from `r`, and closes its side with an end marker.
-pub fn heed(b: Rank, r: Rank, slots: &mut Slots, roster: &mut Roster) -> Values
-    requires whole { Whole roster.old }
-    requires b_lt_ranks { (b.0 < ranks) × (r.0 < ranks) }
-    ensures { (contents : List ℕ) → IsMail slots.old contents → DeskDoes (heed b r) slots.old contents
-        roster.old result slots.new contents roster.new }
+pub fn heed(b: Rank, r: Rank, desk: &mut Desk) -> Values
+    requires { (b.0 < ranks) × (r.0 < ranks) }
+    ensures { DeskDoes (heed b r) desk.old result desk.new }
 {
-    let moved = relabel_between(r, b, Place::Channel, Place::EndList, slots);
-    connect(b, r, Connection::Closed, roster);
-    awaiting(r, b, Backlog::Marked, roster);
+    let moved = relabel_between(r, b, Place::Channel, Place::EndList, &mut desk.mail.slots);
+    connect(b, r, Connection::Closed, &mut desk.roster);
+    awaiting(r, b, Backlog::Marked, &mut desk.roster);
     Values(widened(moved), 0, 0)
 }

@@ -1,8 +1,7 @@
 // Land: its checks in the paper's order, and what it does where none applies. Paper 01, "The step log", kind 09.
 #![tactic(auto)]
 
-ghost use Rattle.std.specs.Prelude.{List, ◌≡◌, ℕ, ◌<◌};
-ghost use Rattle.transit.specs.Mail.{IsMail};
+ghost use Rattle.std.specs.Prelude.{◌≡◌, ◌<◌};
 ghost use Rattle.transit.specs.Message.{ranks};
 ghost use Rattle.transit.specs.Unread.{Unread};
 ghost use Rattle.protocol.specs.Migrate.{land};
@@ -15,11 +14,12 @@ ghost use Rattle.kind_land.specs.Tests.{land_tests};
 
 use answer::{Refusal, Values, widened};
 use broker::process::Status;
+use desk::Desk;
 use roster::Roster;
 use roster_awaits::awaits;
 use roster_read::standing_of;
 use roster_write::set_standing;
-use transit::{Place, Rank, Slots};
+use transit::{Place, Rank};
 use transit_count::count_to;
 use transit_relabel::relabel_to;
 use verdict::{Verdict, migrating, one_rank, refuse_if};
@@ -42,16 +42,13 @@ pub fn land_verdict(r: Rank, roster: &Roster) -> Verdict
 }
 
 // `r`'s target process runs, and has what the source process had read.
-pub fn land(r: Rank, slots: &mut Slots, roster: &mut Roster) -> Values
-    requires whole { Whole roster.old }
-    requires r_lt_ranks { r.0 < ranks }
-    ensures { (contents : List ℕ) → IsMail slots.old contents → DeskDoes (land r) slots.old contents
-        roster.old result slots.new contents roster.new }
+pub fn land(r: Rank, desk: &mut Desk) -> Values
+    requires { r.0 < ranks }
+    ensures { DeskDoes (land r) desk.old result desk.new }
 {
-    let standing = standing_of(r, roster);
-    let target = standing.endpoint();
-    let moved = relabel_to(r, Place::SourceList, Place::EndList, slots);
-    set_standing(r, Status::Running(target), roster);
-    let listed = count_to(r, Place::EndList, slots);
+    let target = standing_of(r, &desk.roster).endpoint();
+    relabel_to(r, Place::SourceList, Place::EndList, &mut desk.mail.slots);
+    set_standing(r, Status::Running(target), &mut desk.roster);
+    let listed = count_to(r, Place::EndList, &desk.mail.slots);
     Values(widened(listed), 0, 0)
 }

@@ -1,18 +1,16 @@
 // Look: its checks in the paper's order, and what it does where none applies. Paper 01, "The step log", kind 0C; paper 02, change 6.
 #![tactic(auto)]
 
-ghost use Rattle.std.specs.Prelude.{List, ◌≡◌, ℕ};
-ghost use Rattle.transit.specs.Mail.{IsMail};
-ghost use Rattle.transit.specs.Unread.{sender_in};
+ghost use Rattle.std.specs.Prelude.{◌≡◌};
 ghost use Rattle.protocol.specs.Messages.{look};
 ghost use Rattle.record.specs.declared.Record.{Record};
-ghost use Rattle.roster.specs.Roster.{Whole};
 ghost use Rattle.desk.specs.Desk.{desk_of, IsDesk, DeskDoes, Judges};
 ghost use Rattle.verdict.specs.Verdict.{verdict_of, passed, judged};
 ghost use Rattle.kind_look.specs.Tests.{look_tests};
 
 use answer::{Refusal, Values};
 use broker::process::Status;
+use desk::Desk;
 use roster::Roster;
 use roster_read::standing_of;
 use transit::{Contents, Message, Rank, Slots, Value};
@@ -36,23 +34,12 @@ pub fn look_verdict(r: Rank, slots: &Slots, contents: &Contents, roster: &Roster
     look_checked(r, receiver, found)
 }
 
-// The sender of what was found.
-fn sender_in(found: Option<Message>) -> Rank
-    ensures { result ≡ sender_in found }
-{
-    match found {
-        Some(m) => m.sender,
-        None => Rank(0),
-    }
-}
-
 // The rank named is the sender of the message that was sent first of all those unread by `r`.
-pub fn look(r: Rank, slots: &Slots, contents: &Contents) -> Values
-    requires { IsMail slots.now contents.now }
-    ensures { (roster : List ℕ) → Whole roster → DeskDoes (look r) slots.now
-        contents.now roster result slots.now contents.now roster }
+#[tactic(auto, unfolding(protocol::specs::Messages::look))]
+pub fn look(r: Rank, desk: &Desk) -> Values
+    ensures { DeskDoes (look r) desk.now result desk.now }
 {
-    let found = first_to(r, slots, contents);
-    let sender = sender_in(found);
+    let found = first_to(r, &desk.mail.slots, &desk.mail.contents);
+    let sender = found.map_or(Rank(0), |m| m.sender);
     Values(sender.0 as Value, 0, 0)
 }

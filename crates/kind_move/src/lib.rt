@@ -1,8 +1,7 @@
 // Move: its checks in the paper's order, and what it does where none applies. Paper 01, "The step log", kind 06; paper 02, change 2.
 #![tactic(auto)]
 
-ghost use Rattle.std.specs.Prelude.{List, ◌≡◌, ℕ, ◌<◌};
-ghost use Rattle.transit.specs.Mail.{IsMail};
+ghost use Rattle.std.specs.Prelude.{◌≡◌, ◌<◌};
 ghost use Rattle.transit.specs.Message.{ranks};
 ghost use Rattle.transit.specs.Unread.{Unread};
 ghost use Rattle.protocol.specs.Migrate.{move};
@@ -10,19 +9,20 @@ ghost use Rattle.broker.specs.Names.{numbers};
 ghost use Rattle.broker.specs.State.{drawn_on, with_unread};
 ghost use Rattle.record.specs.declared.Record.{Record};
 ghost use Rattle.roster.specs.Roster.{ranks_of, Whole};
-ghost use Rattle.desk.specs.Desk.{DeskDoes, Judges};
+ghost use Rattle.desk.specs.Desk.{state_of, DeskDoes, Judges};
 ghost use Rattle.verdict.specs.Verdict.{verdict_of, passed, judged};
 ghost use Rattle.kind_move.specs.Tests.{move_tests};
 
 use answer::{Refusal, Values};
 use broker::process::{Request, Status, Vmid};
 use broker::state::Broker;
+use desk::Desk;
 use kind_move_leaving::{leave_all, leave_behind};
 use roster::Roster;
 use roster_awaits::awaits;
 use roster_read::{drawn_on, request_of, standing_of};
 use roster_write::{set_drawn, set_standing};
-use transit::{Rank, Slots, Value};
+use transit::{Rank, Value};
 use verdict::{Verdict, refuse_if, running};
 
 fn move_checked(
@@ -53,20 +53,19 @@ pub fn move_verdict(r: Rank, host: u8, roster: &Roster) -> Verdict
 }
 
 // `r` migrates to `host` with its next number, and the lines that it has are left. The host may be the one where it runs.
-pub fn move_to(r: Rank, host: u8, slots: &mut Slots, roster: &mut Roster) -> Values
-    requires whole { Whole roster.old }
+#[tactic(auto, using(crate::specs::Laws::Done::move_done))]
+pub fn move_to(r: Rank, host: u8, desk: &mut Desk) -> Values
     requires r_lt_ranks { r.0 < ranks }
-    requires host_bound { drawn_on (ranks_of roster.old) host < numbers }
-    ensures { (contents : List ℕ) → IsMail slots.old contents → DeskDoes (move r host) slots.old contents
-        roster.old result slots.new contents roster.new }
+    requires host_bound { drawn_on (state_of desk.old) host < numbers }
+    ensures { DeskDoes (move r host) desk.old result desk.new }
 {
-    let standing = standing_of(r, roster);
-    let source = standing.endpoint();
-    let number = drawn_on(host, roster) + 1;
-    set_drawn(host, number, roster);
-    set_standing(r, Status::Migrating(source, Vmid(host, number)), roster);
-    leave_behind(r, slots);
-    leave_all(r, roster);
-    let awaited = awaits(r, roster);
+    let source = standing_of(r, &desk.roster).endpoint();
+    let number = drawn_on(host, &desk.roster) + 1;
+    let moving = Status::Migrating(source, Vmid(host, number));
+    set_drawn(host, number, &mut desk.roster);
+    set_standing(r, moving, &mut desk.roster);
+    leave_behind(r, &mut desk.mail);
+    leave_all(r, &mut desk.roster);
+    let awaited = awaits(r, &desk.roster);
     Values(host as Value, number as Value, awaited as Value)
 }

@@ -1,30 +1,27 @@
 // What a move leaves behind: its lines, and the messages of the source process. Paper 01, "The step log", kind 06.
 #![tactic(auto)]
 
-ghost use Rattle.std.specs.Prelude.{List, ℕ, ◌<◌};
-ghost use Rattle.transit.specs.Mail.{IsMail};
+ghost use Rattle.std.specs.Prelude.{◌≡◌, ◌<◌};
+ghost use Rattle.transit.specs.InPlace.{unread};
 ghost use Rattle.transit.specs.Message.{ranks};
-ghost use Rattle.protocol.specs.Migrate.{leave, leave_all};
+ghost use Rattle.protocol.specs.Migrate.{leave, leave_all, left_behind};
 ghost use Rattle.broker.specs.State.{with_links};
-ghost use Rattle.roster.specs.Roster.{ranks_of, Holds, Whole};
-ghost use Rattle.kind_move_leaving.specs.Behind.{LeftBehind};
+ghost use Rattle.roster.specs.Roster.{ranks_of, Holds};
 
 use broker::link::{Backlog, Connection, Link};
 use roster::Roster;
 use roster_read::link_between;
 use roster_write::{awaiting, connect, set_link};
-use transit::{Place, Rank, Slots};
+use transit::mail::Mail;
+use transit::{Place, Rank};
 use transit_relabel::relabel_to;
 
 // What `r`'s move does between `r` and `p`.
 fn leave(r: Rank, p: Rank, roster: &mut Roster)
-    requires { Whole roster.old }
     ensures { Holds roster.new (with_links (leave r p (ranks_of roster.old).links) (ranks_of
         roster.old)) }
 {
-    let link = link_between(r, p, roster);
-    let line = link.connection;
-    match line {
+    match link_between(r, p, roster).connection {
         Connection::Closed => {}
         Connection::Open => {
             let own = Link {
@@ -46,24 +43,21 @@ fn leave(r: Rank, p: Rank, roster: &mut Roster)
 }
 
 // What it does between `r` and everybody.
+#[tactic(auto, unfolding(protocol::specs::Migrate::leave_all, broker::specs::Ranks::each_rank))]
 pub fn leave_all(r: Rank, roster: &mut Roster)
-    requires { Whole roster.old }
     ensures { Holds roster.new (with_links (leave_all r (ranks_of roster.old).links) (ranks_of
         roster.old)) }
 {
-    let mut i: u8 = 0;
-    while i < Rank::LIMIT {
+    for i in 0..Rank::LIMIT {
         leave(r, Rank(i), roster);
-        i += 1;
     }
 }
 
 // The messages to `r` stay with its source process.
-pub fn leave_behind(r: Rank, slots: &mut Slots)
+pub fn leave_behind(r: Rank, mail: &mut Mail)
     requires { r.0 < ranks }
-    ensures { (contents : List ℕ) → IsMail slots.old contents → LeftBehind r slots.old contents
-        slots.new }
+    ensures { unread mail.new ≡ left_behind r (unread mail.old) }
 {
-    let listed = relabel_to(r, Place::EndList, Place::SourceList, slots);
-    let on_channel = relabel_to(r, Place::Channel, Place::SourceChannel, slots);
+    relabel_to(r, Place::EndList, Place::SourceList, &mut mail.slots);
+    relabel_to(r, Place::Channel, Place::SourceChannel, &mut mail.slots);
 }

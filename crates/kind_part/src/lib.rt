@@ -1,8 +1,7 @@
 // Part: its checks in the paper's order, and what it does where none applies. Paper 01, "The step log", kind 0A.
 #![tactic(auto)]
 
-ghost use Rattle.std.specs.Prelude.{false, List, ◌≡◌, ℕ, ◌<◌};
-ghost use Rattle.transit.specs.Mail.{IsMail};
+ghost use Rattle.std.specs.Prelude.{false, ◌≡◌, ◌<◌};
 ghost use Rattle.transit.specs.Message.{is_same_rank, ranks};
 ghost use Rattle.transit.specs.Unread.{Unread};
 ghost use Rattle.protocol.specs.Connect.{part};
@@ -16,10 +15,11 @@ ghost use Rattle.kind_part.specs.Tests.{part_tests};
 use answer::{Refusal, Values, widened};
 use broker::link::Connection;
 use broker::process::Status;
+use desk::Desk;
 use roster::Roster;
 use roster_read::{link_between, standing_of};
 use roster_write::connect_both;
-use transit::{Place, Rank, Slots};
+use transit::{Place, Rank};
 use transit_relabel::relabel_between;
 use verdict::{Verdict, refuse_if, running, two_ranks};
 
@@ -44,15 +44,14 @@ pub fn part_verdict(a: Rank, b: Rank, roster: &Roster) -> Verdict
 }
 
 // The channels between `a` and `b` are read into the lists, and their lines close.
-pub fn part(a: Rank, b: Rank, slots: &mut Slots, roster: &mut Roster) -> Values
-    requires whole { Whole roster.old }
+pub fn part(a: Rank, b: Rank, desk: &mut Desk) -> Values
     requires a_lt_ranks { (a.0 < ranks) × (b.0 < ranks) }
     requires apart { is_same_rank a b ≡ false }
-    ensures { (contents : List ℕ) → IsMail slots.old contents → DeskDoes (part a b) slots.old contents
-        roster.old result slots.new contents roster.new }
+    ensures { DeskDoes (part a b) desk.old result desk.new }
 {
+    let slots = &mut desk.mail.slots;
     let to_first = relabel_between(b, a, Place::Channel, Place::EndList, slots);
     let to_second = relabel_between(a, b, Place::Channel, Place::EndList, slots);
-    connect_both(a, b, Connection::Closed, roster);
+    connect_both(a, b, Connection::Closed, &mut desk.roster);
     Values(widened(to_first), widened(to_second), 0)
 }

@@ -7,13 +7,14 @@ ghost use Rattle.protocol.specs.Connect.{withdraw, route_there, route_on, route}
 ghost use Rattle.broker.specs.State.{with_unread};
 ghost use Rattle.record.specs.declared.Record.{Record};
 ghost use Rattle.roster.specs.Roster.{ranks_of, Holds, Whole};
-ghost use Rattle.desk.specs.Desk.{RosterDoes, Judges};
+ghost use Rattle.desk.specs.Desk.{DeskDoes, Judges};
 ghost use Rattle.verdict.specs.Verdict.{verdict_of, passed, judged};
 ghost use Rattle.kind_route.specs.Tests.{route_tests};
 
 use answer::{Refusal, Values};
 use broker::link::Connection;
 use broker::process::{Request, Status, Vmid, asks_for, posted_to};
+use desk::Desk;
 use roster::Roster;
 use roster_read::{request_of, standing_of};
 use roster_write::{connect_both, set_location, set_request};
@@ -45,51 +46,46 @@ pub fn route_verdict(a: Rank, b: Rank, roster: &Roster) -> Verdict
 
 // `a`'s call closes if it goes to `b`.
 fn withdraw(a: Rank, b: Rank, roster: &mut Roster)
-    requires { Whole roster.old }
     ensures { Holds roster.new (withdraw a b (ranks_of roster.old)) }
 {
-    let request = request_of(a, roster);
-    if asks_for(request, b) {
+    if asks_for(request_of(a, roster), b) {
         set_request(a, None, roster);
     }
 }
 
 // The call was posted to the current end: a plain line stands both ways, and calls between the two close.
-fn route_there(a: Rank, b: Rank, end: Vmid, roster: &mut Roster) -> Values
-    requires { Whole roster.old }
-    ensures { RosterDoes (route_there a b end) roster.old result roster.new }
+fn route_there(a: Rank, b: Rank, end: Vmid, desk: &mut Desk) -> Values
+    ensures { DeskDoes (route_there a b end) desk.old result desk.new }
 {
-    connect_both(a, b, Connection::Open, roster);
-    withdraw(a, b, roster);
-    withdraw(b, a, roster);
+    connect_both(a, b, Connection::Open, &mut desk.roster);
+    withdraw(a, b, &mut desk.roster);
+    withdraw(b, a, &mut desk.roster);
     Values(0, end.0 as Value, end.1 as Value)
 }
 
 // It was not: the entry and the call go to the current end.
-fn route_on(a: Rank, b: Rank, end: Vmid, roster: &mut Roster) -> Values
-    requires { Whole roster.old }
-    ensures { RosterDoes (route_on a b end) roster.old result roster.new }
+fn route_on(a: Rank, b: Rank, end: Vmid, desk: &mut Desk) -> Values
+    ensures { DeskDoes (route_on a b end) desk.old result desk.new }
 {
-    set_location(a, b, end, roster);
-    set_request(a, Some(Request { to: b, vmid: end }), roster);
+    set_location(a, b, end, &mut desk.roster);
+    set_request(a, Some(Request { to: b, vmid: end }), &mut desk.roster);
     Values(1, end.0 as Value, end.1 as Value)
 }
 
 // What becomes of `a`'s call to `b`.
-pub fn route(a: Rank, b: Rank, roster: &mut Roster) -> Values
-    requires { Whole roster.old }
-    ensures { RosterDoes (route a b) roster.old result roster.new }
+#[tactic(auto, unfolding(protocol::specs::Connect::route))]
+pub fn route(a: Rank, b: Rank, desk: &mut Desk) -> Values
+    ensures { DeskDoes (route a b) desk.old result desk.new }
 {
-    let request = request_of(a, roster);
-    let standing = standing_of(b, roster);
-    let posted = posted_to(request);
+    let request = request_of(a, &desk.roster);
+    let standing = standing_of(b, &desk.roster);
     let end = standing.endpoint();
     if standing.is_ended() {
-        set_request(a, None, roster);
-        return Values(2, 0, 0);
+        set_request(a, None, &mut desk.roster);
+        Values(2, 0, 0)
+    } else if posted_to(request) == end {
+        route_there(a, b, end, desk)
+    } else {
+        route_on(a, b, end, desk)
     }
-    if posted.same(end) {
-        return route_there(a, b, end, roster);
-    }
-    route_on(a, b, end, roster)
 }

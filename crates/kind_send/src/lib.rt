@@ -2,8 +2,7 @@
 #![tactic(auto)]
 
 ghost use Rattle.std.specs.Prelude.{◌≡◌, length, ℕ, ◌<◌};
-ghost use Rattle.transit.specs.Columns.{sent_in};
-ghost use Rattle.transit.specs.Mail.{messages_in};
+ghost use Rattle.transit.specs.InPlace.{messages, sent};
 ghost use Rattle.transit.specs.Message.{ranks};
 ghost use Rattle.transit.specs.Unread.{limit, sent_at, most_sent};
 ghost use Rattle.protocol.specs.Messages.{place_over, send};
@@ -15,6 +14,7 @@ ghost use Rattle.kind_send.specs.Tests.{send_tests};
 use answer::{Refusal, Values, widened};
 use broker::link::Connection;
 use broker::process::Status;
+use desk::Desk;
 use roster::Roster;
 use roster_read::{link_between, standing_of};
 use transit::{Contents, Place, Rank, Sequence, Slots, Transit, Value};
@@ -66,31 +66,21 @@ fn place_over(line: Connection) -> Place
     ensures { result ≡ place_over line }
 {
     match line {
-        Connection::Closed => Place::Channel,
-        Connection::Open => Place::Channel,
+        Connection::Closed | Connection::Open => Place::Channel,
         Connection::Closing => Place::SourceChannel,
     }
 }
 
 // The message is unread, after all others, with the next number of its pair.
-pub fn send(
-    a: Rank,
-    b: Rank,
-    value: Value,
-    slots: &mut Slots,
-    contents: &mut Contents,
-    roster: &Roster,
-) -> Values
-    requires desk { IsDesk slots.old contents.old roster.now }
+#[tactic(auto, using(crate::specs::Laws::Done::send_done))]
+pub fn send(a: Rank, b: Rank, value: Value, desk: &mut Desk) -> Values
     requires a_lt_ranks { (a.0 < ranks) × (b.0 < ranks) }
-    requires contents_len_bound { length (messages_in slots.old contents.old) < limit }
-    requires contents_bound { sent_at a b (sent_in contents.old) < most_sent }
-    ensures { DeskDoes (send a b value) slots.old contents.old roster.now result
-        slots.new contents.new roster.now }
+    requires contents_len_bound { length (messages desk.old.mail) < limit }
+    requires contents_bound { sent_at a b (sent desk.old.mail) < most_sent }
+    ensures { DeskDoes (send a b value) desk.old result desk.new }
 {
-    let link = link_between(a, b, roster);
-    let line = link.connection;
-    let place = place_over(line);
-    let pair = append(a, b, place, value, slots, contents);
+    let place = place_over(link_between(a, b, &desk.roster).connection);
+    let mail = &mut desk.mail;
+    let pair = append(a, b, place, value, &mut mail.slots, &mut mail.contents);
     Values(widened(pair), 0, 0)
 }

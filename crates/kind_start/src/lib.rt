@@ -8,13 +8,14 @@ ghost use Rattle.broker.specs.Names.{numbers};
 ghost use Rattle.broker.specs.State.{drawn_on, with_unread};
 ghost use Rattle.record.specs.declared.Record.{Record};
 ghost use Rattle.roster.specs.Roster.{ranks_of, Whole};
-ghost use Rattle.desk.specs.Desk.{RosterDoes, Judges};
+ghost use Rattle.desk.specs.Desk.{state_of, DeskDoes, Judges};
 ghost use Rattle.verdict.specs.Verdict.{verdict_of, passed, judged};
 ghost use Rattle.kind_start.specs.Tests.{start_tests};
 
 use answer::{Refusal, Values};
 use broker::process::{Status, Vmid};
 use broker::state::Broker;
+use desk::Desk;
 use roster::Roster;
 use roster_read::{drawn_on, standing_of};
 use roster_write::{announce, set_drawn, set_standing};
@@ -40,15 +41,15 @@ pub fn start_verdict(r: Rank, host: u8, roster: &Roster) -> Verdict
 }
 
 // `r` runs on `host` with its next number, and everybody is told.
-pub fn start(r: Rank, host: u8, roster: &mut Roster) -> Values
-    requires whole { Whole roster.old }
-    requires host_bound { drawn_on (ranks_of roster.old) host < numbers }
-    ensures { RosterDoes (start r host) roster.old result roster.new }
+#[tactic(auto, unfolding(protocol::specs::Life::start))]
+pub fn start(r: Rank, host: u8, desk: &mut Desk) -> Values
+    requires { drawn_on (state_of desk.old) host < numbers }
+    ensures { DeskDoes (start r host) desk.old result desk.new }
 {
-    let number = drawn_on(host, roster) + 1;
+    let number = drawn_on(host, &desk.roster) + 1;
     let vmid = Vmid(host, number);
-    set_drawn(host, number, roster);
-    set_standing(r, Status::Running(vmid), roster);
-    announce(r, vmid, roster);
+    set_drawn(host, number, &mut desk.roster);
+    set_standing(r, Status::Running(vmid), &mut desk.roster);
+    announce(r, vmid, &mut desk.roster);
     Values(host as Value, number as Value, 0)
 }

@@ -3,7 +3,8 @@
 
 ghost use Rattle.std.specs.Prelude.{List, ◌≡◌, ℕ, ◌<◌};
 ghost use Rattle.base.specs.Lists.{tally};
-ghost use Rattle.transit.specs.Mail.{IsMail, messages_in};
+ghost use Rattle.transit.specs.InPlace.{messages};
+ghost use Rattle.transit.specs.Mail.{IsMail};
 ghost use Rattle.transit.specs.Message.{between, ranks};
 ghost use Rattle.protocol.specs.Messages.{take};
 ghost use Rattle.record.specs.declared.Record.{Record};
@@ -14,9 +15,10 @@ ghost use Rattle.kind_take.specs.Tests.{take_tests};
 
 use answer::{Refusal, Values, widened};
 use broker::process::Status;
+use desk::Desk;
 use roster::Roster;
 use roster_read::standing_of;
-use transit::{Contents, Count, Rank, Slots, Value};
+use transit::{Count, Rank, Slots, Value};
 use transit_count::unread_between;
 use transit_remove::remove;
 use verdict::{Verdict, refuse_if, running, two_ranks};
@@ -41,14 +43,14 @@ pub fn take_verdict(b: Rank, a: Rank, slots: &Slots, roster: &Roster) -> Verdict
 }
 
 // The first message from `a` to `b` leaves.
-pub fn take(b: Rank, a: Rank, slots: &mut Slots, contents: &Contents) -> Values
-    requires mail { IsMail slots.old contents.now }
+#[tactic(auto, using(crate::specs::Laws::Done::take_done))]
+pub fn take(b: Rank, a: Rank, desk: &mut Desk) -> Values
     requires a_lt_ranks { (a.0 < ranks) × (b.0 < ranks) }
-    requires nonzero { 0 < tally (between a b) (messages_in slots.old contents.now) }
-    ensures { (roster : List ℕ) → Whole roster → DeskDoes (take b a) slots.old contents.now roster result
-        slots.new contents.now roster }
+    requires nonzero { 0 < tally (between a b) (messages desk.old.mail) }
+    ensures { DeskDoes (take b a) desk.old result desk.new }
 {
-    let removed = remove(a, b, slots, contents);
+    let mail = &mut desk.mail;
+    let removed = remove(a, b, &mut mail.slots, &mail.contents);
     let m = removed.message;
     Values(m.value, widened(removed.left), m.sequence as Value)
 }

@@ -5,36 +5,29 @@ ghost use Rattle.std.proofs.Math.Option.{none};
 ghost use Rattle.std.specs.Prelude.{◌≡◌};
 ghost use Rattle.protocol.specs.Checks.{refusal};
 ghost use Rattle.protocol.specs.Step.{apply};
-ghost use Rattle.desk.specs.Desk.{desk_of, IsDesk, DeskDoes};
+ghost use Rattle.desk.specs.Desk.{state_of, DeskDoes};
 
 use answer::Values;
+use desk::Desk;
 use record::Record;
-use roster::Roster;
-use transit::{Contents, Slots};
 
-pub fn apply(
-    read: Record,
-    slots: &mut Slots,
-    contents: &mut Contents,
-    roster: &mut Roster,
-) -> Values
-    requires desk { IsDesk slots.old contents.old roster.old }
-    requires read_value { refusal (desk_of slots.old contents.old roster.old) read ≡ none }
-    ensures { DeskDoes (apply read) slots.old contents.old roster.old result slots.new
-        contents.new roster.new }
+#[tactic(auto, unfolding(protocol::specs::Step::apply))]
+pub fn apply(read: Record, desk: &mut Desk) -> Values
+    requires { refusal (state_of desk.old) read ≡ none }
+    ensures { DeskDoes (apply read) desk.old result desk.new }
 {
     match read {
-        Record::Start(r, host) => kind_start::start(r, host, roster),
-        Record::Call(a, b) => kind_call::call(a, b, roster),
-        Record::Route(a, b) => kind_route::route(a, b, roster),
-        Record::Send(a, b, value) => kind_send::send(a, b, value, slots, contents, roster),
-        Record::Take(b, a) => kind_take::take(b, a, slots, contents),
-        Record::Move(r, host) => kind_move::move_to(r, host, slots, roster),
-        Record::Heed(b, r) => kind_heed::heed(b, r, slots, roster),
-        Record::Drain(r, p) => kind_drain::drain(r, p, slots, contents, roster),
-        Record::Land(r) => kind_land::land(r, slots, roster),
-        Record::Part(a, b) => kind_part::part(a, b, slots, roster),
-        Record::End(r) => kind_end::end(r, roster),
-        Record::Look(r) => kind_look::look(r, slots, contents),
+        Record::Start(r, host) => kind_start::start(r, host, desk),
+        Record::Call(a, b) => kind_call::call(a, b, desk),
+        Record::Route(a, b) => kind_route::route(a, b, desk),
+        Record::Send(a, b, value) => kind_send::send(a, b, value, desk),
+        Record::Take(b, a) => kind_take::take(b, a, desk),
+        Record::Move(r, host) => kind_move::move_to(r, host, desk),
+        Record::Heed(b, r) => kind_heed::heed(b, r, desk),
+        Record::Drain(r, p) => kind_drain::drain(r, p, desk),
+        Record::Land(r) => kind_land::land(r, desk),
+        Record::Part(a, b) => kind_part::part(a, b, desk),
+        Record::End(r) => kind_end::end(r, desk),
+        Record::Look(r) => kind_look::look(r, desk),
     }
 }

@@ -1,5 +1,5 @@
 // What a step finds of a state.
-use answer::number_of;
+use answer::Refusal;
 use broker::state::Broker;
 use std::io;
 use steps::step;
@@ -7,19 +7,14 @@ use steps::step;
 // The state is handed to a step at the end of an empty log, where a sound state is answered with 3 and an unsound one with 1. Either way
 // the position stays, and the very state comes back.
 pub fn tell(rt: &impl Print, name: &[u8], broker: Broker) -> io::Result<()> {
-    let log = [0u8; 0];
-    let stepped = step(broker, &log, 0);
-    let number = number_of(stepped.answer);
-    let after = stepped.broker;
+    let stepped = step(broker, &[], 0);
     rt.write_all(name)?;
-    if after != broker {
+    if stepped.broker != broker {
         return println!(rt; " changed");
     }
-    if number == 1 {
-        println!(rt; " unsound")?;
+    match stepped.answer {
+        Err(Refusal::Unsound) => println!(rt; " unsound"),
+        Err(Refusal::CutShort) => println!(rt; " sound"),
+        _ => Ok(()),
     }
-    if number == 3 {
-        println!(rt; " sound")?;
-    }
-    Ok(())
 }

@@ -2,7 +2,7 @@
 //! one of its cases, and that the check finds by itself now. They are stated and
 //! proved as before, and no proof cites them.
 
-pub const FOUND: [&str; 31] = [
+pub const FOUND: [&str; 34] = [
     "base.specs.Laws.Below.count_failed",
     "base.specs.Laws.Below.count_passed",
     "base.specs.Laws.Stores.any_default",
@@ -10,6 +10,9 @@ pub const FOUND: [&str; 31] = [
     "generator_record.specs.Laws.Body.second_within",
     "generator_record.specs.Laws.Body.three_fields",
     "generator_record.specs.Laws.Body.two_fields",
+    "kind_route.specs.Laws.Routed.route_arrives",
+    "kind_route.specs.Laws.Routed.route_ended",
+    "kind_route.specs.Laws.Routed.route_goes_on",
     "kind_route.specs.Laws.Withdrawn.routed_there",
     "made_up_argument.specs.Laws.Argument.digit_least",
     "made_up_argument.specs.Laws.Argument.digit_most",

@@ -9,13 +9,10 @@ use Rattle.kind_land.specs.Laws.Done.{land_done}
 use Rattle.kind_land.proofs.land.Goals as goal
 
 pub returns : goal.returns
-returns c = λ contents m.
-    let args = c.args in
-    let ranks = ranks_of args.roster.now in
-    let target = c.endpoint-target.ensures ∙ ap endpoint c.standing_of-standing.ensures in
-    let runs = c.set_standing.ensures.same ∙ ap (λ (v : Vmid). with_status args.r (Running v) ranks) target in
-    let listed = c.relabel_to-moved.ensures contents m in
-    record {
-      kept = record { mail = listed.kept; long = c.set_standing.ensures.long };
-      does = λ ok. rw c.widened.ensures (land_done ranks args.r listed runs (c.count_to-listed.ensures contents listed.kept));
-    }
+returns c = λ ok.
+    let d = c.args.desk.now in
+    let ranks = ranks_of d.roster in
+    let target = c.endpoint-target.ensures ∙ ap endpoint c.standing_of.ensures in
+    let runs = c.set_standing.ensures.same ∙ ap (λ (v : Vmid). with_status c.args.r (Running v) ranks) target in
+    let listed = c.relabel_to.ensures d.mail.contents d.mail.kept in
+    rw c.widened.ensures (land_done ranks c.args.r listed runs (c.count_to-listed.ensures d.mail.contents listed.kept))

@@ -6,10 +6,8 @@ use Rattle.transit.specs.declared.Selection.TheVariants.{ToAt}
 use Rattle.kind_move_leaving.proofs.leave_behind.Goals as goal
 
 pub returns : goal.returns
-returns c = λ contents m.
-    let listed = c.relabel_to-listed.ensures contents m in
-    let both = c.relabel_to-on_channel.ensures contents listed.kept in
-    record {
-      kept = both.kept;
-      same = relabelled_unread both ∙ ap (relabel_all (ToAt c.args.r Channel) SourceChannel) (relabelled_unread listed);
-    }
+returns c =
+    let m = c.args.mail.now in
+    let listed = c.relabel_to.ensures m.contents m.kept in
+    let both = c.relabel_to-2.ensures m.contents listed.kept in
+    relabelled_unread both ∙ ap (relabel_all (ToAt c.args.r Channel) SourceChannel) (relabelled_unread listed)
