@@ -1,52 +1,30 @@
 // Call: its checks in the paper's order, and what it does where none applies. Paper 01, "The step log", kind 02.
 #![tactic(auto)]
 
-ghost use Rattle.std.specs.Prelude.{◌≡◌};
-ghost use Rattle.transit.specs.Unread.{Unread};
 ghost use Rattle.protocol.specs.Connect.{call};
-ghost use Rattle.broker.specs.State.{with_unread};
 ghost use Rattle.record.specs.declared.Record.{Record};
-ghost use Rattle.roster.specs.Roster.{ranks_of, Whole};
-ghost use Rattle.desk.specs.Desk.{DeskDoes, Judges};
-ghost use Rattle.verdict.specs.Verdict.{verdict_of, passed, judged};
-ghost use Rattle.kind_call.specs.Tests.{call_tests};
+ghost use Rattle.desk.specs.Desk.{DeskDoes, Judges, state_of};
 
 use answer::{Refusal, Values};
-use broker::link::Connection;
-use broker::process::{Request, Status};
+use broker::process::Request;
 use desk::Desk;
-use roster::Roster;
 use roster_read::{link_between, location_of, request_of, standing_of};
 use roster_write::set_request;
 use transit::{Rank, Value};
 use verdict::{Verdict, refuse_if, running, two_ranks};
 
-fn call_checked(
-    a: Rank,
-    b: Rank,
-    first: Status,
-    second: Status,
-    request: Option<Request>,
-    line: Connection,
-) -> Verdict
-    ensures { verdict_of result ≡ judged passed (call_tests a b first second request line) }
+#[tactic(auto, using(crate::specs::Laws::Judged::by_tests))]
+pub fn call_verdict(a: Rank, b: Rank, desk: &Desk) -> Verdict
+    ensures { Judges (Record.Call a b) (state_of desk.now) result }
 {
+    let first = standing_of(a, &desk.roster);
+    let second = standing_of(b, &desk.roster);
     two_ranks(a, b, first, second)?;
     running(first)?;
-    refuse_if(!line.is_closed(), Refusal::Connected)?;
+    let link = link_between(a, b, &desk.roster);
+    refuse_if(!link.connection.is_closed(), Refusal::Connected)?;
+    let request = request_of(a, &desk.roster);
     refuse_if(request.is_some(), Refusal::RequestOpen)
-}
-
-pub fn call_verdict(a: Rank, b: Rank, roster: &Roster) -> Verdict
-    requires { Whole roster.now }
-    ensures { (u : Unread) → Judges (Record.Call a b) (with_unread u (ranks_of roster.now)) result }
-{
-    let first = standing_of(a, roster);
-    let second = standing_of(b, roster);
-    let request = request_of(a, roster);
-    let link = link_between(a, b, roster);
-    let line = link.connection;
-    call_checked(a, b, first, second, request, line)
 }
 
 // `a`'s call opens, posted to its entry for `b`.

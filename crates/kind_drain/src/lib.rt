@@ -1,59 +1,42 @@
 // Drain: its checks in the paper's order, and what it does where none applies. Paper 01, "The step log", kind 08.
 #![tactic(auto)]
 
-ghost use Rattle.std.specs.Prelude.{◌≡◌, ◌<◌};
+ghost use Rattle.std.specs.Prelude.{◌<◌};
 ghost use Rattle.transit.specs.Message.{ranks};
 ghost use Rattle.protocol.specs.Migrate.{drain};
 ghost use Rattle.record.specs.declared.Record.{Record};
-ghost use Rattle.desk.specs.Desk.{desk_of, IsDesk, DeskDoes, Judges};
-ghost use Rattle.verdict.specs.Verdict.{verdict_of, passed, judged};
-ghost use Rattle.kind_drain.specs.Tests.{drain_tests};
+ghost use Rattle.desk.specs.Desk.{state_of, DeskDoes, Judges};
 
 use answer::{Refusal, Values};
 use broker::link::Backlog;
-use broker::process::Status;
 use desk::Desk;
-use roster::Roster;
 use roster_read::{link_between, standing_of};
 use roster_write::awaiting;
-use transit::{Contents, Message, Place, Rank, Slots, Value};
+use transit::{Place, Rank, Value};
 use transit_find::first_at;
 use transit_relabel::relabel_first;
 use verdict::{Verdict, migrating, refuse_if, two_ranks};
 
-fn drain_checked(
-    r: Rank,
-    p: Rank,
-    mover: Status,
-    peer: Status,
-    awaited: Backlog,
-    found: Option<Message>,
-) -> Verdict
-    ensures { verdict_of result ≡ judged passed (drain_tests r p mover peer awaited found) }
+#[tactic(auto, using(crate::specs::Laws::Judged::by_tests))]
+pub fn drain_verdict(r: Rank, p: Rank, desk: &Desk) -> Verdict
+    ensures { Judges (Record.Drain r p) (state_of desk.now) result }
 {
-    let nothing = found.is_none() && awaited.is_unheeded();
+    let mover = standing_of(r, &desk.roster);
+    let peer = standing_of(p, &desk.roster);
     two_ranks(r, p, mover, peer)?;
     migrating(mover)?;
-    refuse_if(awaited.is_clear(), Refusal::NoBacklog)?;
-    refuse_if(nothing, Refusal::NothingToDrain)
-}
-
-pub fn drain_verdict(
-    r: Rank,
-    p: Rank,
-    slots: &Slots,
-    contents: &Contents,
-    roster: &Roster,
-) -> Verdict
-    requires { IsDesk slots.now contents.now roster.now }
-    ensures { Judges (Record.Drain r p) (desk_of slots.now contents.now roster.now) result }
-{
-    let mover = standing_of(r, roster);
-    let peer = standing_of(p, roster);
-    let link = link_between(r, p, roster);
+    let link = link_between(r, p, &desk.roster);
     let awaited = link.backlog;
-    let found = first_at(p, r, Place::SourceChannel, slots, contents);
-    drain_checked(r, p, mover, peer, awaited, found)
+    refuse_if(awaited.is_clear(), Refusal::NoBacklog)?;
+    let found = first_at(
+        p,
+        r,
+        Place::SourceChannel,
+        &desk.mail.slots,
+        &desk.mail.contents,
+    );
+    let nothing = found.is_none() && awaited.is_unheeded();
+    refuse_if(nothing, Refusal::NothingToDrain)
 }
 
 // `r`'s source process reads what stands first on its channel from `p`: a message, or the end marker.

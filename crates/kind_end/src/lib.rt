@@ -1,52 +1,33 @@
 // End: its checks in the paper's order, and what it does where none applies. Paper 01, "The step log", kind 0B.
 #![tactic(auto)]
 
-ghost use Rattle.std.specs.Prelude.{◌≡◌};
-ghost use Rattle.transit.specs.Mail.{IsMail};
 ghost use Rattle.protocol.specs.Life.{end};
 ghost use Rattle.record.specs.declared.Record.{Record};
-ghost use Rattle.roster.specs.Roster.{Whole};
-ghost use Rattle.desk.specs.Desk.{desk_of, DeskDoes, Judges};
-ghost use Rattle.verdict.specs.Verdict.{verdict_of, passed, judged};
-ghost use Rattle.kind_end.specs.Tests.{end_tests};
+ghost use Rattle.desk.specs.Desk.{DeskDoes, Judges, state_of};
 
 use answer::{Refusal, Values};
-use broker::process::{Request, Status};
+use broker::process::Status;
 use desk::Desk;
-use roster::Roster;
 use roster_awaits::alone;
 use roster_read::{request_of, standing_of};
 use roster_write::set_standing;
-use transit::{Contents, Message, Rank, Slots};
+use transit::Rank;
 use transit_find::first_to;
 use verdict::{Verdict, one_rank, refuse_if, running};
 
-fn end_checked(
-    r: Rank,
-    standing: Status,
-    request: Option<Request>,
-    alone: bool,
-    found: Option<Message>,
-) -> Verdict
-    ensures { verdict_of result ≡ judged passed (end_tests r standing request alone found) }
+#[tactic(auto, using(crate::specs::Laws::Judged::by_tests))]
+pub fn end_verdict(r: Rank, desk: &Desk) -> Verdict
+    ensures { Judges (Record.End r) (state_of desk.now) result }
 {
+    let standing = standing_of(r, &desk.roster);
     one_rank(r, standing)?;
     running(standing)?;
+    let alone = alone(r, &desk.roster);
     refuse_if(!alone, Refusal::Connected)?;
+    let request = request_of(r, &desk.roster);
     refuse_if(request.is_some(), Refusal::RequestOpen)?;
+    let found = first_to(r, &desk.mail.slots, &desk.mail.contents);
     refuse_if(found.is_some(), Refusal::UnreadLeft)
-}
-
-pub fn end_verdict(r: Rank, slots: &Slots, contents: &Contents, roster: &Roster) -> Verdict
-    requires mail { IsMail slots.now contents.now }
-    requires whole { Whole roster.now }
-    ensures { Judges (Record.End r) (desk_of slots.now contents.now roster.now) result }
-{
-    let standing = standing_of(r, roster);
-    let request = request_of(r, roster);
-    let alone = alone(r, roster);
-    let found = first_to(r, slots, contents);
-    end_checked(r, standing, request, alone, found)
 }
 
 // `r` is ended, and keeps its last vmid.

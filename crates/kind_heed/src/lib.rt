@@ -1,45 +1,31 @@
 // Heed: its checks in the paper's order, and what it does where none applies. Paper 01, "The step log", kind 07.
 #![tactic(auto)]
 
-ghost use Rattle.std.specs.Prelude.{◌≡◌, ◌<◌};
+ghost use Rattle.std.specs.Prelude.{◌<◌};
 ghost use Rattle.transit.specs.Message.{ranks};
-ghost use Rattle.transit.specs.Unread.{Unread};
 ghost use Rattle.protocol.specs.Migrate.{heed};
-ghost use Rattle.broker.specs.State.{with_unread};
 ghost use Rattle.record.specs.declared.Record.{Record};
-ghost use Rattle.roster.specs.Roster.{ranks_of, Whole};
-ghost use Rattle.desk.specs.Desk.{DeskDoes, Judges};
-ghost use Rattle.verdict.specs.Verdict.{verdict_of, passed, judged};
-ghost use Rattle.kind_heed.specs.Tests.{heed_tests};
+ghost use Rattle.desk.specs.Desk.{state_of, DeskDoes, Judges};
 
 use answer::{Refusal, Values, widened};
 use broker::link::{Backlog, Connection};
-use broker::process::Status;
 use desk::Desk;
-use roster::Roster;
 use roster_read::{link_between, standing_of};
 use roster_write::{awaiting, connect};
 use transit::{Place, Rank};
 use transit_relabel::relabel_between;
 use verdict::{Verdict, refuse_if, two_ranks};
 
-fn heed_checked(b: Rank, r: Rank, peer: Status, mover: Status, line: Connection) -> Verdict
-    ensures { verdict_of result ≡ judged passed (heed_tests b r peer mover line) }
+#[tactic(auto, using(crate::specs::Laws::Judged::by_tests))]
+pub fn heed_verdict(b: Rank, r: Rank, desk: &Desk) -> Verdict
+    ensures { Judges (Record.Heed b r) (state_of desk.now) result }
 {
+    let peer = standing_of(b, &desk.roster);
+    let mover = standing_of(r, &desk.roster);
     two_ranks(b, r, peer, mover)?;
     refuse_if(peer.is_ended(), Refusal::HasEnded)?;
-    refuse_if(!line.is_closing(), Refusal::NoNotice)
-}
-
-pub fn heed_verdict(b: Rank, r: Rank, roster: &Roster) -> Verdict
-    requires { Whole roster.now }
-    ensures { (u : Unread) → Judges (Record.Heed b r) (with_unread u (ranks_of roster.now)) result }
-{
-    let peer = standing_of(b, roster);
-    let mover = standing_of(r, roster);
-    let link = link_between(b, r, roster);
-    let line = link.connection;
-    heed_checked(b, r, peer, mover, line)
+    let link = link_between(b, r, &desk.roster);
+    refuse_if(!link.connection.is_closing(), Refusal::NoNotice)
 }
 
 // `b` reads what is on its channel from `r`, and closes its side with an end marker.

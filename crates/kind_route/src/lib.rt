@@ -1,19 +1,14 @@
 // Route: its checks in the paper's order, and what it does where none applies. Paper 01, "The step log", kind 03.
 #![tactic(auto)]
 
-ghost use Rattle.std.specs.Prelude.{◌≡◌};
-ghost use Rattle.transit.specs.Unread.{Unread};
 ghost use Rattle.protocol.specs.Connect.{withdraw, route_there, route_on, route};
-ghost use Rattle.broker.specs.State.{with_unread};
 ghost use Rattle.record.specs.declared.Record.{Record};
-ghost use Rattle.roster.specs.Roster.{ranks_of, Holds, Whole};
-ghost use Rattle.desk.specs.Desk.{DeskDoes, Judges};
-ghost use Rattle.verdict.specs.Verdict.{verdict_of, passed, judged};
-ghost use Rattle.kind_route.specs.Tests.{route_tests};
+ghost use Rattle.roster.specs.Roster.{ranks_of, Holds};
+ghost use Rattle.desk.specs.Desk.{DeskDoes, Judges, state_of};
 
 use answer::{Refusal, Values};
 use broker::link::Connection;
-use broker::process::{Request, Status, Vmid, asks_for, posted_to};
+use broker::process::{Request, Vmid, asks_for, posted_to};
 use desk::Desk;
 use roster::Roster;
 use roster_read::{request_of, standing_of};
@@ -21,27 +16,15 @@ use roster_write::{connect_both, set_location, set_request};
 use transit::{Rank, Value};
 use verdict::{Verdict, refuse_if, two_ranks};
 
-fn route_checked(
-    a: Rank,
-    b: Rank,
-    first: Status,
-    second: Status,
-    request: Option<Request>,
-) -> Verdict
-    ensures { verdict_of result ≡ judged passed (route_tests a b first second request) }
+#[tactic(auto, using(crate::specs::Laws::Judged::by_tests))]
+pub fn route_verdict(a: Rank, b: Rank, desk: &Desk) -> Verdict
+    ensures { Judges (Record.Route a b) (state_of desk.now) result }
 {
+    let first = standing_of(a, &desk.roster);
+    let second = standing_of(b, &desk.roster);
     two_ranks(a, b, first, second)?;
+    let request = request_of(a, &desk.roster);
     refuse_if(!asks_for(request, b), Refusal::NoRequest)
-}
-
-pub fn route_verdict(a: Rank, b: Rank, roster: &Roster) -> Verdict
-    requires { Whole roster.now }
-    ensures { (u : Unread) → Judges (Record.Route a b) (with_unread u (ranks_of roster.now)) result }
-{
-    let first = standing_of(a, roster);
-    let second = standing_of(b, roster);
-    let request = request_of(a, roster);
-    route_checked(a, b, first, second, request)
 }
 
 // `a`'s call closes if it goes to `b`.

@@ -7,58 +7,32 @@ ghost use Rattle.transit.specs.Message.{ranks};
 ghost use Rattle.transit.specs.Unread.{limit, sent_at, most_sent};
 ghost use Rattle.protocol.specs.Messages.{place_over, send};
 ghost use Rattle.record.specs.declared.Record.{Record};
-ghost use Rattle.desk.specs.Desk.{desk_of, IsDesk, DeskDoes, Judges};
-ghost use Rattle.verdict.specs.Verdict.{verdict_of, passed, judged};
-ghost use Rattle.kind_send.specs.Tests.{send_tests};
+ghost use Rattle.desk.specs.Desk.{state_of, DeskDoes, Judges};
 
 use answer::{Refusal, Values, widened};
 use broker::link::Connection;
-use broker::process::Status;
 use desk::Desk;
-use roster::Roster;
 use roster_read::{link_between, standing_of};
-use transit::{Contents, Place, Rank, Sequence, Slots, Transit, Value};
+use transit::{Place, Rank, Transit, Value};
 use transit_append::append;
 use transit_count::unread;
 use transit_sent::sent_between;
 use verdict::{Verdict, refuse_if, running, two_ranks};
 
-fn send_checked(
-    a: Rank,
-    b: Rank,
-    sender: Status,
-    receiver: Status,
-    line: Connection,
-    unread: usize,
-    sent: Sequence,
-) -> Verdict
-    ensures { verdict_of result ≡ judged passed (send_tests a b sender receiver line unread sent) }
+#[tactic(auto, using(crate::specs::Laws::Judged::by_tests))]
+pub fn send_verdict(a: Rank, b: Rank, desk: &Desk) -> Verdict
+    ensures { (value : ℕ) → Judges (Record.Send a b value) (state_of desk.now) result }
 {
+    let sender = standing_of(a, &desk.roster);
+    let receiver = standing_of(b, &desk.roster);
     two_ranks(a, b, sender, receiver)?;
     running(sender)?;
-    refuse_if(line.is_closed(), Refusal::NotConnected)?;
+    let link = link_between(a, b, &desk.roster);
+    refuse_if(link.connection.is_closed(), Refusal::NotConnected)?;
+    let unread = unread(&desk.mail.slots);
     refuse_if(Transit::LIMIT <= unread, Refusal::Full)?;
+    let sent = sent_between(a, b, &desk.mail.contents);
     refuse_if(Transit::MOST_SENT <= sent, Refusal::SequenceSpent)
-}
-
-pub fn send_verdict(
-    a: Rank,
-    b: Rank,
-    slots: &Slots,
-    contents: &Contents,
-    roster: &Roster,
-) -> Verdict
-    requires { IsDesk slots.now contents.now roster.now }
-    ensures { (value : ℕ) → Judges (Record.Send a b value) (desk_of slots.now contents.now
-        roster.now) result }
-{
-    let sender = standing_of(a, roster);
-    let receiver = standing_of(b, roster);
-    let link = link_between(a, b, roster);
-    let line = link.connection;
-    let n = unread(slots);
-    let sent = sent_between(a, b, contents);
-    send_checked(a, b, sender, receiver, line, n, sent)
 }
 
 // Where a message over a connection stands.

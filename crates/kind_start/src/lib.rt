@@ -1,43 +1,32 @@
 // Start: its checks in the paper's order, and what it does where none applies. Paper 01, "The step log", kind 01.
 #![tactic(auto)]
 
-ghost use Rattle.std.specs.Prelude.{◌≡◌, ◌<◌};
-ghost use Rattle.transit.specs.Unread.{Unread};
+ghost use Rattle.std.specs.Prelude.{◌<◌};
 ghost use Rattle.protocol.specs.Life.{start};
 ghost use Rattle.broker.specs.Names.{numbers};
-ghost use Rattle.broker.specs.State.{drawn_on, with_unread};
+ghost use Rattle.broker.specs.State.{drawn_on};
 ghost use Rattle.record.specs.declared.Record.{Record};
-ghost use Rattle.roster.specs.Roster.{ranks_of, Whole};
 ghost use Rattle.desk.specs.Desk.{state_of, DeskDoes, Judges};
-ghost use Rattle.verdict.specs.Verdict.{verdict_of, passed, judged};
-ghost use Rattle.kind_start.specs.Tests.{start_tests};
 
 use answer::{Refusal, Values};
 use broker::process::{Status, Vmid};
 use broker::state::Broker;
 use desk::Desk;
-use roster::Roster;
 use roster_read::{drawn_on, standing_of};
 use roster_write::{announce, set_drawn, set_standing};
 use transit::{Rank, Value};
 use verdict::{Verdict, refuse_if};
 
-fn start_checked(r: Rank, host: u8, standing: Status, drawn: u16) -> Verdict
-    ensures { verdict_of result ≡ judged passed (start_tests r host standing drawn) }
+#[tactic(auto, using(crate::specs::Laws::Judged::by_tests))]
+pub fn start_verdict(r: Rank, host: u8, desk: &Desk) -> Verdict
+    ensures { Judges (Record.Start r host) (state_of desk.now) result }
 {
     refuse_if(Broker::RANKS <= r.0, Refusal::RankRange)?;
     refuse_if(Broker::HOSTS <= host, Refusal::HostRange)?;
+    let standing = standing_of(r, &desk.roster);
     refuse_if(standing.is_started(), Refusal::AlreadyStarted)?;
+    let drawn = drawn_on(host, &desk.roster);
     refuse_if(Broker::NUMBERS <= drawn, Refusal::NumbersSpent)
-}
-
-pub fn start_verdict(r: Rank, host: u8, roster: &Roster) -> Verdict
-    requires { Whole roster.now }
-    ensures { (u : Unread) → Judges (Record.Start r host) (with_unread u (ranks_of roster.now)) result }
-{
-    let standing = standing_of(r, roster);
-    let drawn = drawn_on(host, roster);
-    start_checked(r, host, standing, drawn)
 }
 
 // `r` runs on `host` with its next number, and everybody is told.

@@ -27,7 +27,3 @@ module _ (r : Record) (s : State) (v : Result ⊤ Refusal) (judged : Judges r s 
   settle_accepted w s' e does =
       let h : refusal s r ≡ none = sym judged ∙ ap verdict_of e in
       rw h (ap (λ (d : Done). record { answer = Ok d.values; state = d.state }) does)
-
--- no check applies where the verdict passes
-pub nothing_applies : (r : Record) (s : State) (v : Result ⊤ Refusal) {x : ⊤} → Judges r s v → v ≡ Ok x → refusal s r ≡ none
-nothing_applies r s v judged e = sym judged ∙ ap verdict_of e
