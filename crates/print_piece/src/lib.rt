@@ -1,16 +1,15 @@
-// A piece of the input is run over the working arrays. Paper 01, "The printed run".
+// A piece of the input is run in place. Paper 01, "The printed run".
 #![tactic(auto)]
 
 ghost use Rattle.std.specs.Prelude.{◌+◌, ◌<◌, ◌^◌, length};
-ghost use Rattle.desk.specs.Desk.{desk_of, IsDesk};
+ghost use Rattle.desk.specs.Desk.{state_of};
 ghost use Rattle.print_piece.specs.Ran.{RanSome, Stops};
 
+use desk::Desk;
 use print_lines::record_line;
 use record::Fault;
 use record::decode::decode;
-use roster::Roster;
 use settle::settle;
-use transit::{Contents, Slots};
 
 // Why a run of a piece stops.
 #[derive(Clone, Copy)]
@@ -36,20 +35,10 @@ pub struct Stopped {
 const ROOM: usize = 108;
 
 // Runs the whole records of a piece while the page has room for a line. The piece's first byte stands at `base` in the input.
-pub fn run_piece(
-    piece: &[u8],
-    base: u64,
-    page: &mut [u8],
-    slots: &mut Slots,
-    contents: &mut Contents,
-    roster: &mut Roster,
-) -> Stopped
-    requires desk { IsDesk slots.old contents.old roster.old }
-    requires piece_bound { base + length piece.now < 2 ^ 64 }
-    ensures kept { IsDesk slots.new contents.new roster.new }
-    ensures ran { RanSome
-        (desk_of slots.old contents.old roster.old) piece.now base (length page.old)
-        (desk_of slots.new contents.new roster.new) result.at result.used result.steps page.new }
+pub fn run_piece(piece: &[u8], base: u64, page: &mut [u8], desk: &mut Desk) -> Stopped
+    requires { base + length piece.now < 2 ^ 64 }
+    ensures ran { RanSome (state_of desk.old) piece.now base (length page.old)
+        (state_of desk.new) result.at result.used result.steps page.new }
     ensures stops { Stops result.stop piece.now result.at result.used (length page.old) }
 {
     let mut at: usize = 0;
@@ -67,7 +56,7 @@ pub fn run_piece(
         match decode(piece, at) {
             Ok((read, next)) => {
                 let kind = piece[at];
-                let answer = settle(read, slots, contents, roster);
+                let answer = settle(read, desk);
                 used = record_line(page, used, base + at as u64, kind, answer);
                 at = next;
                 steps += 1;

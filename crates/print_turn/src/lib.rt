@@ -3,15 +3,14 @@
 #![tactic(auto)]
 
 ghost use Rattle.std.specs.Prelude.{◌≡◌, ◌≤◌, length};
-ghost use Rattle.desk.specs.Desk.{desk_of, IsDesk};
+ghost use Rattle.desk.specs.Desk.{state_of};
 ghost use Rattle.print_last.specs.Last.{ending_room};
 ghost use Rattle.print_turn.specs.Turn.{next_of, buffer_room, Turns};
 
+use desk::Desk;
 use print_buffer::keep_rest;
 use print_ending::run_end;
 use print_piece::{Stop, run_piece};
-use roster::Roster;
-use transit::{Contents, Slots};
 
 // What a program does when it has written what the page shows.
 #[derive(Clone, Copy)]
@@ -66,16 +65,11 @@ pub fn turn(
     base: u64,
     done: bool,
     page: &mut [u8],
-    slots: &mut Slots,
-    contents: &mut Contents,
-    roster: &mut Roster,
+    desk: &mut Desk,
 ) -> Turned
-    requires desk { IsDesk slots.old contents.old roster.old }
-    requires held_in_bounds { (held ≤ length buffer.old) × (length buffer.old ≤ buffer_room) × (ending_room ≤ length page.old) }
-    ensures kept { IsDesk slots.new contents.new roster.new }
-    ensures turns { Turns (desk_of slots.old contents.old roster.old)
-        buffer.old held base done (length page.old)
-        (desk_of slots.new contents.new roster.new) buffer.new result page.new }
+    requires { (held ≤ length buffer.old) × (length buffer.old ≤ buffer_room) × (ending_room ≤ length page.old) }
+    ensures { Turns (state_of desk.old) buffer.old held base done (length page.old)
+        (state_of desk.new) buffer.new result page.new }
 {
     if FARTHEST <= base {
         return Turned {
@@ -85,7 +79,7 @@ pub fn turn(
             next: Next::TooLong,
         };
     }
-    let stopped = run_piece(&buffer[..held], base, page, slots, contents, roster);
+    let stopped = run_piece(&buffer[..held], base, page, desk);
     let at = stopped.at;
     let used = stopped.used;
     let stop = stopped.stop;
@@ -101,7 +95,8 @@ pub fn turn(
                 next: Next::Again,
             };
         }
-        let end = run_end(page, used, further, &buffer[..kept], slots);
+        let mail = &desk.mail;
+        let end = run_end(page, used, further, &buffer[..kept], &mail.slots);
         return Turned {
             held: kept,
             base: further,

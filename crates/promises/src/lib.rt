@@ -1,14 +1,15 @@
 // The entries that users call, each behind a function that does nothing but call it and says in full what it promises.
 #![tactic(auto)]
 
-ghost use Rattle.std.specs.Prelude.{true, None, List, [], ◌≡◌, ◌+◌, ◌^◌, ◌<◌, ◌≤◌, length, take, replicate};
+ghost use Rattle.std.specs.Prelude.{Some, None, true, false, List, [], ◌≡◌, ◌+◌, ◌^◌, ◌<◌, ◌≤◌, length, take, replicate};
 ghost use Rattle.answer.specs.Answer.{number, NeverEighteen};
 ghost use Rattle.answer.specs.declared.Refusal.{Refusal};
 ghost use Rattle.broker.specs.State.{fresh, view};
 ghost use Rattle.broker.specs.declared.link.Backlog.TheVariants.{Clear};
 ghost use Rattle.broker.specs.declared.link.Connection.TheVariants.{Closed};
 ghost use Rattle.broker.specs.declared.process.Status.TheVariants.{Unstarted};
-ghost use Rattle.desk.specs.Desk.{desk_of, IsDesk};
+ghost use Rattle.desk.specs.Desk.{state_of};
+ghost use Rattle.desk.specs.declared.Desk.{Desk};
 ghost use Rattle.print_piece.specs.declared.Stop.TheVariants.{PageFull, KindUnknown, RecordCut};
 ghost use Rattle.print_run.specs.Printed.{lines_of};
 ghost use Rattle.print_run.specs.Run.{Answered};
@@ -18,21 +19,18 @@ ghost use Rattle.protocol.specs.Step.{step};
 ghost use Rattle.promises.specs.Entries.{ExactStep, EachAnswer, Makes, TurnOfARun};
 ghost use Rattle.record.specs.Record.{decode};
 ghost use Rattle.record.specs.declared.Fault.TheVariants.{Unknown, Cut};
-ghost use Rattle.roster.specs.Roster.{Whole};
 ghost use Rattle.steps.specs.Outcome.{outcome, RefusalKeeps};
-ghost use Rattle.transit.specs.Columns.{slots_length, contents_length};
 
 use broker::state::Broker;
+use desk::Desk;
 use generator::{Made, Word, go_on, made_up};
 use print_piece::{Stopped, run_piece};
 use print_turn::{Turned, turn};
-use roster::Roster;
 use soundness::is_sound;
 use steps::{Outcome, step};
 use steps_in_place::{Reply, step_in_place};
 use steps_lent::step_lent;
-use steps_load::{load, open_fresh, unload};
-use transit::{Contents, Slots};
+use steps_load::{load, unload};
 
 // "A fresh desk has no rank started, no messages, no numbers drawn, and table entries 0.0 (host 0, number 0: unknown)."
 pub fn fresh_desk() -> Broker
@@ -86,92 +84,55 @@ pub fn soundness_of_a_state(broker: Broker) -> bool
     is_sound(broker)
 }
 
-// The fresh state in the lent arrays.
-pub fn fresh_in_place(slots: &mut Slots, contents: &mut Contents, roster: &mut Roster)
-    requires slots_len { length slots.old ≡ slots_length }
-    requires contents_len { length contents.old ≡ contents_length }
-    requires whole { Whole roster.old }
-    ensures desk { IsDesk slots.new contents.new roster.new }
-    ensures holds { desk_of slots.new contents.new roster.new ≡ fresh }
+// The fresh state, in place.
+pub fn fresh_in_place() -> Desk
+    ensures { state_of result ≡ fresh }
 {
-    open_fresh(slots, contents, roster)
+    steps_load::fresh()
 }
 
-// A state that is handed over: the answer says whether it is sound, and where it is the arrays hold it.
-pub fn state_into_place(
-    broker: Broker,
-    slots: &mut Slots,
-    contents: &mut Contents,
-    roster: &mut Roster,
-) -> bool
-    requires slots_len { length slots.old ≡ slots_length }
-    requires contents_len { length contents.old ≡ contents_length }
-    requires whole { Whole roster.old }
-    ensures tells { result ≡ sound (view broker) }
-    ensures desk { result ≡ true → IsDesk slots.new contents.new roster.new }
-    ensures holds { result ≡ true → desk_of slots.new contents.new roster.new ≡ view broker }
+// A state that is handed over: where it is sound there is a desk that holds it, and else there is none.
+pub fn state_into_place(broker: Broker) -> Option<Desk>
+    ensures refused { result ≡ None → sound (view broker) ≡ false }
+    ensures tells { (d : Desk) → result ≡ Some d → sound (view broker) ≡ true }
+    ensures holds { (d : Desk) → result ≡ Some d → state_of d ≡ view broker }
 {
-    load(broker, slots, contents, roster)
+    load(broker)
 }
 
-// The state that the arrays hold, handed back.
-pub fn state_out_of_place(
-    broker: Broker,
-    slots: &Slots,
-    contents: &Contents,
-    roster: &Roster,
-) -> Broker
-    requires { IsDesk slots.now contents.now roster.now }
-    ensures { view result ≡ desk_of slots.now contents.now roster.now }
+// The state that a desk holds, handed back.
+pub fn state_out_of_place(broker: Broker, desk: &Desk) -> Broker
+    ensures { view result ≡ state_of desk.now }
 {
-    unload(broker, slots, contents, roster)
+    unload(broker, desk)
 }
 
-// Demand 2 in place, where the arrays hold a sound state; which they hold again after it.
-pub fn step_on_arrays(
-    log: &[u8],
-    at: usize,
-    slots: &mut Slots,
-    contents: &mut Contents,
-    roster: &mut Roster,
-) -> Reply
-    requires { IsDesk slots.old contents.old roster.old }
-    ensures desk { IsDesk slots.new contents.new roster.new }
-    ensures exact { sound (desk_of slots.old contents.old roster.old) ≡ true →
-        ExactStep (desk_of slots.old contents.old roster.old) log.now at result.answer result.next
-        (desk_of slots.new contents.new roster.new) }
+// Demand 2 in place, where the desk holds a sound state.
+pub fn step_of_a_desk(log: &[u8], at: usize, desk: &mut Desk) -> Reply
+    ensures exact { sound (state_of desk.old) ≡ true →
+        ExactStep (state_of desk.old) log.now at result.answer result.next (state_of desk.new) }
     ensures never_eighteen { number result.answer ≡ 18 → ⊥ }
 {
-    step_in_place(log, at, slots, contents, roster)
+    step_in_place(log, at, desk)
 }
 
-// The whole records of a piece of the input, while the page has room for another line. Where the arrays held a sound state, the state, the
+// The whole records of a piece of the input, while the page has room for another line. Where the desk held a sound state, the state, the
 // position and the lines are those of so many records by the definition.
-pub fn piece_of_a_run(
-    piece: &[u8],
-    base: u64,
-    page: &mut [u8],
-    slots: &mut Slots,
-    contents: &mut Contents,
-    roster: &mut Roster,
-) -> Stopped
-    requires desk_2 { IsDesk slots.old contents.old roster.old }
-    requires piece_bound { base + length piece.now < 2 ^ 64 }
-    ensures desk { IsDesk slots.new contents.new roster.new }
+pub fn piece_of_a_run(piece: &[u8], base: u64, page: &mut [u8], desk: &mut Desk) -> Stopped
+    requires { base + length piece.now < 2 ^ 64 }
     ensures ran { (answers : List Answered) × (take result.used page.new ≡ lines_of answers) ×
         EachAnswer (λ a. number a ≡ 18 → ⊥) answers ×
-        (sound (desk_of slots.old contents.old roster.old) ≡ true →
+        (sound (state_of desk.old) ≡ true →
         (length answers ≡ result.steps) ×
-        (record { state = desk_of slots.new contents.new roster.new; at = result.at; answers = answers } ≡
-        wholes base result.steps (desk_of slots.old contents.old roster.old)
-        piece.now 0)) }
+        (record { state = state_of desk.new; at = result.at; answers = answers } ≡
+        wholes base result.steps (state_of desk.old) piece.now 0)) }
     ensures inside { (result.at ≤ length piece.now) × (result.used ≤ length page.new) }
     ensures room { length page.new ≡ length page.old }
     ensures page_full { result.stop ≡ PageFull → length page.old < result.used + 108 }
     ensures kind_unknown { result.stop ≡ KindUnknown → decode piece.now result.at ≡ Err Unknown }
     ensures record_cut { result.stop ≡ RecordCut → decode piece.now result.at ≡ Err Cut }
 {
-    run_piece(piece, base, page, slots, contents, roster)
+    run_piece(piece, base, page, desk)
 }
 
 // A turn of a program that reads its input through a buffer of at most 65,536 bytes, on a page that has room for the end of a run.
@@ -181,21 +142,16 @@ pub fn turn_of_a_run(
     base: u64,
     done: bool,
     page: &mut [u8],
-    slots: &mut Slots,
-    contents: &mut Contents,
-    roster: &mut Roster,
+    desk: &mut Desk,
 ) -> Turned
-    requires desk_2 { IsDesk slots.old contents.old roster.old }
-    requires held_in_bounds { (held ≤ length buffer.old) × (length buffer.old ≤ 65536) × (33648 ≤ length page.old) }
-    ensures desk { IsDesk slots.new contents.new roster.new }
-    ensures turns { TurnOfARun (desk_of slots.old contents.old roster.old)
-        (take held buffer.old) base done (desk_of slots.new contents.new roster.new)
+    requires { (held ≤ length buffer.old) × (length buffer.old ≤ 65536) × (33648 ≤ length page.old) }
+    ensures turns { TurnOfARun (state_of desk.old) (take held buffer.old) base done (state_of desk.new)
         (take result.held buffer.new) result page.new }
     ensures exact { (result.base + result.held ≡ base + held) × (result.held ≤ held) × (result.used ≤ length page.new) }
     ensures room { (length buffer.new ≡ length buffer.old) ×
         (length page.new ≡ length page.old) }
 {
-    turn(buffer, held, base, done, page, slots, contents, roster)
+    turn(buffer, held, base, done, page, desk)
 }
 
 // Paper 02, change 1: "Write a log of n records into a lent buffer .. Checks: 26 for seed zero, then 27 for a buffer shorter than 7 times n

@@ -5,31 +5,19 @@
 use replay_course::take_turn;
 use replay_stage::words::words;
 use replay_stage::{BUFFER_LENGTH, Then, after_write, answer_of, begun, take_in};
-use roster::ROSTER_LENGTH;
 use std::io::Read;
-use steps_load::open_fresh;
-use transit::{CONTENTS_LENGTH, SLOTS_LENGTH};
+use steps_load::fresh;
 
 fn main(rt: HostRuntime) {
     let mut buffer = [0u8; BUFFER_LENGTH];
     let mut page = [0u8; BUFFER_LENGTH];
-    let mut slots = [0u16; SLOTS_LENGTH];
-    let mut contents = [0u32; CONTENTS_LENGTH];
-    let mut roster = [0u64; ROSTER_LENGTH];
-    open_fresh(&mut slots, &mut contents, &mut roster);
+    let mut desk = fresh();
     let mut stage = begun();
     loop {
         let then = stage.then;
         match then {
             Then::Turn => {
-                let turned = take_turn(
-                    stage,
-                    &mut buffer,
-                    &mut page,
-                    &mut slots,
-                    &mut contents,
-                    &mut roster,
-                );
+                let turned = take_turn(stage, &mut buffer, &mut page, &mut desk);
                 let used = turned.used;
                 let wrote = rt.write_all(&page[..used]).is_ok();
                 stage = after_write(turned, wrote);

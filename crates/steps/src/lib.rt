@@ -9,10 +9,8 @@ ghost use Rattle.steps.specs.Outcome.{outcome, RefusalKeeps};
 
 use answer::{Answer, Refusal};
 use broker::state::Broker;
-use roster::ROSTER_LENGTH;
-use steps_in_place::step_in_place;
+use steps_in_place::{Reply, step_in_place};
 use steps_load::{load, unload};
-use transit::{CONTENTS_LENGTH, SLOTS_LENGTH};
 
 // All of a step's outcome: the state afterwards, the answer, and the next position.
 #[derive(Clone, Copy)]
@@ -29,31 +27,26 @@ pub fn step(broker: Broker, log: &[u8], at: usize) -> Outcome
     ensures refused_unchanged { RefusalKeeps result.answer broker result.broker }
     ensures never_eighteen { NeverEighteen result.answer }
 {
-    let mut slots = [0u16; SLOTS_LENGTH];
-    let mut contents = [0u32; CONTENTS_LENGTH];
-    let mut roster = [0u64; ROSTER_LENGTH];
-    if !load(broker, &mut slots, &mut contents, &mut roster) {
+    let Some(mut desk) = load(broker) else {
         return Outcome {
-            broker: broker,
+            broker,
             answer: Err(Refusal::Unsound),
             next: at,
         };
-    }
-    let reply = step_in_place(log, at, &mut slots, &mut contents, &mut roster);
-    let answer = reply.answer;
-    let next = reply.next;
+    };
+    let Reply { answer, next } = step_in_place(log, at, &mut desk);
     match answer {
         Err(_) => Outcome {
-            broker: broker,
-            answer: answer,
-            next: next,
+            broker,
+            answer,
+            next,
         },
         Ok(_) => {
-            let after = unload(broker, &slots, &contents, &roster);
+            let after = unload(broker, &desk);
             Outcome {
                 broker: after,
-                answer: answer,
-                next: next,
+                answer,
+                next,
             }
         }
     }

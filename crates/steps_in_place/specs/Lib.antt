@@ -1,3 +1,3 @@
--- A step on the lent arrays, and laws of it.
+-- A step in place, and laws of it.
 pub mod InPlace
 pub mod Laws

@@ -1,15 +1,15 @@
--- The state that the lent arrays hold. Paper 01, "What the contracts carry". Assumes nothing.
-use Rattle.std.specs.Prelude.{Bool, true, List, ◌≡◌, ℕ}
+-- The state that a desk in place holds. Paper 01, "What the contracts carry". Assumes nothing.
+use Rattle.std.specs.Prelude.{Option, Some, None, true, false, ◌≡◌}
 use Rattle.protocol.specs.Sound.{sound}
 use Rattle.broker.specs.State.{State}
-use Rattle.desk.specs.Desk.{desk_of, IsDesk}
+use Rattle.desk.specs.Desk.{state_of}
+use Rattle.desk.specs.declared.Desk.{Desk}
 
--- the arrays hold the state
-pub record HoldsState (s : State) (slots contents roster : List ℕ) : Type 0 where
-  pub desk : IsDesk slots contents roster
-  pub same : desk_of slots contents roster ≡ s
+-- the desk holds the state
+abbrev pub HoldsState : State → Desk → Type 0
+HoldsState s d = state_of d ≡ s
 
--- the answer says whether the state is sound, and if it is, the arrays hold it
-pub record Loads (s : State) (answer : Bool) (slots contents roster : List ℕ) : Type 0 where
-  pub tells : answer ≡ sound s
-  pub holds : answer ≡ true → HoldsState s slots contents roster
+-- there is a desk exactly where the state is sound, and then it holds the state
+abbrev pub Loads : State → Option Desk → Type 0
+Loads s None = sound s ≡ false
+Loads s (Some d) = (sound s ≡ true) × HoldsState s d

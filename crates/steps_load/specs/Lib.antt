@@ -1,3 +1,3 @@
--- The state that the lent arrays hold, and laws of it.
+-- The state that a desk in place holds, and laws of it.
 pub mod Held
 pub mod Laws

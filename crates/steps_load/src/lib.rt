@@ -1,53 +1,56 @@
-// Between the two forms of one state: the plain one, which is handed over, tested and saved, and the arrays, on which a run works.
+// Between the two forms of one state: the plain one, which is handed over, tested and saved, and the desk in place, on which a run works.
 #![tactic(auto)]
 
-ghost use Rattle.std.specs.Prelude.{◌≡◌, length};
-ghost use Rattle.transit.specs.Columns.{slots_length, contents_length};
+ghost use Rattle.std.specs.Prelude.{◌≡◌};
 ghost use Rattle.broker.specs.State.{view, fresh};
-ghost use Rattle.desk.specs.Desk.{desk_of, IsDesk};
-ghost use Rattle.roster.specs.Roster.{Whole};
+ghost use Rattle.desk.specs.Desk.{state_of};
 ghost use Rattle.steps_load.specs.Held.{HoldsState, Loads};
 
 use broker::state::Broker;
-use roster::Roster;
+use desk::Desk;
+use roster::ROSTER_LENGTH;
 use soundness::is_sound;
-use transit::{CELLS, Contents, Slots};
+use transit::mail::Mail;
+use transit::{CELLS, CONTENTS_LENGTH, SLOTS_LENGTH};
 
-// The fresh state, in the arrays.
-pub fn open_fresh(slots: &mut Slots, contents: &mut Contents, roster: &mut Roster)
-    requires slots_len { length slots.old ≡ slots_length }
-    requires contents_len { length contents.old ≡ contents_length }
-    requires whole { Whole roster.old }
-    ensures { HoldsState fresh slots.new contents.new roster.new }
+// The fresh state, in place.
+pub fn fresh() -> Desk
+    ensures { HoldsState fresh result }
 {
-    transit_load::clear([0; CELLS], slots, contents);
-    roster_load::clear(roster);
+    let mut slots = [0u16; SLOTS_LENGTH];
+    let mut contents = [0u32; CONTENTS_LENGTH];
+    let mut roster = [0u64; ROSTER_LENGTH];
+    transit_load::clear([0; CELLS], &mut slots, &mut contents);
+    roster_load::clear(&mut roster);
+    let mail = Mail { slots, contents };
+    Desk { mail, roster }
 }
 
-// A state is tested, and where it is sound the arrays hold it.
-pub fn load(broker: Broker, slots: &mut Slots, contents: &mut Contents, roster: &mut Roster) -> bool
-    requires slots_len { length slots.old ≡ slots_length }
-    requires contents_len { length contents.old ≡ contents_length }
-    requires whole { Whole roster.old }
-    ensures { Loads (view broker) result slots.new contents.new roster.new }
+// A state is tested, and where it is sound there is a desk that holds it.
+pub fn load(broker: Broker) -> Option<Desk>
+    ensures { Loads (view broker) result }
 {
     if !is_sound(broker) {
-        return false;
+        return None;
     }
+    let mut slots = [0u16; SLOTS_LENGTH];
+    let mut contents = [0u32; CONTENTS_LENGTH];
+    let mut roster = [0u64; ROSTER_LENGTH];
     let transit = broker.transit;
-    transit_load::load(transit, slots, contents);
-    roster_load::load(broker, roster);
-    true
+    transit_load::load(transit, &mut slots, &mut contents);
+    roster_load::load(broker, &mut roster);
+    let mail = Mail { slots, contents };
+    Some(Desk { mail, roster })
 }
 
-// The state that the arrays hold, in the room of `broker`.
-pub fn unload(broker: Broker, slots: &Slots, contents: &Contents, roster: &Roster) -> Broker
-    requires { IsDesk slots.now contents.now roster.now }
-    ensures { view result ≡ desk_of slots.now contents.now roster.now }
+// The state that a desk holds, in the room of `broker`.
+pub fn unload(broker: Broker, desk: &Desk) -> Broker
+    ensures { view result ≡ state_of desk.now }
 {
+    let mail = &desk.mail;
     let room = broker.transit;
-    let messages = transit_load::unload_into(room, slots, contents);
-    let mut next = roster_load::unload(broker, roster);
+    let messages = transit_load::unload_into(room, &mail.slots, &mail.contents);
+    let mut next = roster_load::unload(broker, &desk.roster);
     next.transit = messages;
     next
 }

@@ -3,19 +3,16 @@
 // calls answered is added up and printed, so that none of them can be left out.
 #![tactic(auto)]
 
-ghost use Rattle.desk.specs.Desk.{IsDesk};
-
 use answer::{Answer, number_of, values_of};
 use broker::state::Broker;
-use roster::{ROSTER_LENGTH, Roster};
+use desk::Desk;
 use soundness::is_sound;
 use std::io;
 use std::io::Cursor;
 use steps::{Outcome, step};
 use steps_in_place::{Reply, step_in_place};
 use steps_lent::step_lent;
-use steps_load::{open_fresh, unload};
-use transit::{CONTENTS_LENGTH, Contents, SLOTS_LENGTH, Slots};
+use steps_load::{fresh, unload};
 
 // The call that is made, by the byte that asks for it.
 #[derive(Clone, Copy, PartialEq, Eq)]
@@ -48,13 +45,10 @@ impl TryFrom<u8> for Call {
 const ROOM: usize = 65536;
 
 // The log is run in place, up to where no record stands.
-fn lead(log: &[u8], slots: &mut Slots, contents: &mut Contents, roster: &mut Roster)
-    requires { IsDesk slots.old contents.old roster.old }
-    ensures { IsDesk slots.new contents.new roster.new }
-{
+fn lead(log: &[u8], desk: &mut Desk) {
     let mut at: usize = 0;
     while at < log.len() {
-        let done = step_in_place(log, at, slots, contents, roster);
+        let done = step_in_place(log, at, desk);
         if done.next <= at {
             return;
         }
@@ -92,17 +86,10 @@ fn looks<F: Fn(Broker, &[u8], usize) -> Outcome>(step: F, mut broker: Broker, ti
 }
 
 // The same looks, in place.
-fn looks_in_place(
-    times: u32,
-    slots: &mut Slots,
-    contents: &mut Contents,
-    roster: &mut Roster,
-) -> u64
-    requires { IsDesk slots.old contents.old roster.old }
-{
+fn looks_in_place(times: u32, desk: &mut Desk) -> u64 {
     let mut sum: u64 = 0;
     for _ in 0..times {
-        let done = step_in_place(b"\x0C\x00", 0, slots, contents, roster);
+        let done = step_in_place(b"\x0C\x00", 0, desk);
         sum = sum.wrapping_add(told(done.answer));
     }
     sum
@@ -126,17 +113,14 @@ fn main(rt: HostRuntime) -> io::Result<()> {
         return Ok(());
     };
     let times = u32::from_le_bytes([*t0, *t1, *t2, *t3]);
-    let mut slots = [0u16; SLOTS_LENGTH];
-    let mut contents = [0u32; CONTENTS_LENGTH];
-    let mut roster = [0u64; ROSTER_LENGTH];
-    open_fresh(&mut slots, &mut contents, &mut roster);
-    lead(log, &mut slots, &mut contents, &mut roster);
-    let broker = unload(Broker::fresh(), &slots, &contents, &roster);
+    let mut desk = fresh();
+    lead(log, &mut desk);
+    let broker = unload(Broker::fresh(), &desk);
     let sum = match Call::try_from(*call) {
         Ok(Call::ByValue) => looks(step, broker, times),
         Ok(Call::Lent) => looks(step_by_lending, broker, times),
         Ok(Call::Tested) => tests(broker, times),
-        Ok(Call::InPlace) => looks_in_place(times, &mut slots, &mut contents, &mut roster),
+        Ok(Call::InPlace) => looks_in_place(times, &mut desk),
         Err(()) => 0,
     };
     println!(rt; "{sum}")

@@ -7,14 +7,11 @@ use Rattle.replay.proofs.main.Goals as goal
 
 pub loop-buffer-init : goal.loop-buffer-init
 loop-buffer-init c =
-    let opened = c.open_fresh.ensures in
-    (opened.desk, rw (c.begun-stage.ensures, opened.same) (runs_begun _ _ refl refl))
+    rw (c.begun-stage.ensures, c.fresh-desk.ensures) (runs_begun _ _ refl refl)
 
 pub loop-buffer-preserved-in-Turn : goal.loop-buffer-preserved-in-Turn
 loop-buffer-preserved-in-Turn c =
-    let turn = c.take_turn-turned in
-    let runs = runs_turn c.loop-buffer.invariant.1 c.in-Turn.is turn.ensures.advances c.is_ok-wrote.result in
-    (turn.ensures.kept, rw c.after_write-stage.ensures runs)
+    rw c.after_write-stage.ensures (runs_turn c.loop-buffer.invariant c.in-Turn.is c.take_turn-turned.ensures c.is_ok-wrote.result)
 
 -- What is held stands in front of what is read.
 pub loop-buffer-preserved : goal.loop-buffer-preserved
@@ -23,9 +20,9 @@ loop-buffer-preserved c =
     let held = c.loop-buffer.stage.held in
     let buffer = c.loop-buffer.buffer in
     let bytes = c.read.new.buf in
-    let same = take-put_mid_below held (65536 - held) buffer bytes held (omega arith) (omega (arith, inv.1.long.0, inv.1.room)) in
-    let long = c.answer_of-got.array_long ∙ sym inv.1.long.0 in
+    let same = take-put_mid_below held (65536 - held) buffer bytes held (omega arith) (omega (arith, inv.long.0, inv.room)) in
+    let long = c.answer_of-got.array_long ∙ sym inv.long.0 in
     let got = to_z w64 (of_z w64 c.answer_of-got.result) in
     let lent = length (mid_of held (65536 - held) (put_mid held (65536 - held) buffer bytes)) in
     let within : held + lent ≤ 65536 = search rules in
-    (inv.0, rw c.take_in-stage.ensures (runs_read inv.1 c.in-Read.is _ same long got lent within))
+    rw c.take_in-stage.ensures (runs_read inv c.in-Read.is _ same long got lent within)

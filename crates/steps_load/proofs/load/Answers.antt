@@ -19,11 +19,4 @@ pub returns : goal.returns
 returns c =
     let ok : sound (view c.args.broker) ≡ true = sym c.is_sound.ensures ∙ c.if-not-is_sound.false in
     let messages = c.load.ensures in
-    record {
-      tells = sym ok;
-      holds = λ _.
-          record {
-            desk = record { mail = messages.kept; long = c.load-2.ensures.long };
-            same = state_held (view c.args.broker) _ _ _ ok messages.same messages.counted c.load-2.ensures.same;
-          };
-    }
+    (ok, state_held (view c.args.broker) _ _ _ ok messages.same messages.counted c.load-2.ensures.same)
