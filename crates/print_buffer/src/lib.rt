@@ -9,10 +9,6 @@ pub fn keep_rest(buffer: &mut [u8], from: usize, held: usize) -> usize
     requires { (from ≤ held) × (held ≤ length buffer.old) }
     ensures { Kept buffer.old from held buffer.new result }
 {
-    let mut kept: usize = 0;
-    while from + kept < held {
-        buffer[kept] = buffer[from + kept];
-        kept += 1;
-    }
-    kept
+    buffer.copy_within(from..held, 0);
+    held - from
 }

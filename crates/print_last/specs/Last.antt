@@ -2,15 +2,15 @@
 use Rattle.std.specs.Prelude.{List, ◌≡◌, ℕ, ◌*◌, ◌+◌}
 use Rattle.transit.specs.Mail.{IsMail, messages_in}
 use Rattle.transit.specs.declared.Message.{Message}
-use Rattle.print_page.specs.Put.{Put}
+use Rattle.print_page.specs.Put.{Writes}
+use Rattle.print_page.specs.declared.Page.{Page}
 use Rattle.print_lines.specs.Lines.{record_room, pair_room, end_room}
 use Rattle.transit.specs.Message.{ranks}
 
 -- a text is put on a page, and it is what is to be said of the messages that the slots hold, with whatever contents they hold them
-pub record PutOf (most : ℕ) (page : List ℕ) (used : ℕ) (slots : List ℕ) (said : List Message → List ℕ) (after : List ℕ) (end : ℕ)
-    : Type 0 where
+pub record PutOf (most : ℕ) (page : Page) (slots : List ℕ) (said : List Message → List ℕ) (after : Page) : Type 0 where
   pub text : List ℕ
-  pub put : Put most page used text after end
+  pub put : Writes most page text after
   pub same : (contents : List ℕ) → IsMail slots contents → text ≡ said (messages_in slots contents)
 
 -- the most bytes that the lines of a sender take

@@ -1,20 +1,17 @@
-// A text that is given, byte by byte onto a page that has room for it.
+// A text that is given, onto a page that has room for it.
 #![tactic(auto)]
 
 ghost use Rattle.std.specs.Prelude.{◌+◌, ◌≤◌, length};
 ghost use Rattle.print_page.specs.Put.{Put};
 
-use print_page::put_byte;
+use print_page::Page;
 
-pub fn put_text(page: &mut [u8], used: usize, text: &[u8]) -> usize
-    requires { used + length text.now ≤ length page.old }
-    ensures { Put (length text.now) page.old used text.now page.new result }
+// The form for a page that is lent without how much of it is used.
+pub fn put_text(bytes: &mut [u8], used: usize, text: &[u8]) -> usize
+    requires { used + length text.now ≤ length bytes.old }
+    ensures { Put (length text.now) bytes.old used text.now bytes.new result }
 {
-    let mut at = used;
-    let mut i: usize = 0;
-    while i < text.len() {
-        at = put_byte(page, at, text[i]);
-        i += 1;
-    }
-    at
+    let mut page = Page { bytes, used };
+    page.text(text);
+    page.used
 }

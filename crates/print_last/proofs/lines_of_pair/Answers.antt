@@ -1,7 +1,7 @@
 -- Nothing where the pair has nothing unread.
-use Rattle.std.proofs.Common.{[], sym, ◌∙◌, arith}
+use Rattle.std.proofs.Common.{[], sym, ◌∙◌, refl, arith}
 use Rattle.transit.specs.Mail.{messages_in}
-use Rattle.print_page.specs.Laws.Put.{nothing, at_most}
+use Rattle.print_page.specs.Laws.Put.{untouched}
 use Rattle.print_lines.specs.Laws.Parts.{no_line}
 use Rattle.print_last.proofs.lines_of_pair.Goals as goal
 
@@ -9,8 +9,8 @@ pub returns-then-unread_between-eq0 : goal.returns-then-unread_between-eq0
 returns-then-unread_between-eq0 c =
     record {
       text = [];
-      put = at_most nothing (omega arith);
+      put = untouched;
       same = λ contents held.
-          no_line (messages_in c.args.slots.now contents) c.args.a c.args.b
+          no_line (messages_in c.args.slots.now contents) c.args.from.0 c.args.to.0
           (sym (c.unread_between.ensures contents held) ∙ c.if-unread_between-eq0.true);
     }

@@ -1,0 +1,2 @@
+-- A number in decimal as the library writes it.
+pub mod Written
