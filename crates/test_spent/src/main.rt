@@ -7,66 +7,44 @@ use answer::{Values, number_of, values_of};
 use broker::state::Broker;
 use std::io;
 use steps::step;
-use transit::{CELLS, Sequence, Transit};
+use transit::Transit;
 
 // Where the count stands of what rank 0 has sent to rank 1.
 const PAIR: usize = 1;
 
-// The answer's number, 0 where the step is accepted, and its values.
-fn tell(rt: &impl Print, number: u8, values: Values) -> io::Result<()> {
-    let Values(first, second, third) = values;
-    println!(rt; "{number} {first} {second} {third}")
-}
-
-fn tell_sent(rt: &impl Print, count: Sequence) -> io::Result<()> {
-    println!(rt; "{count} sent")
-}
-
 // The state with one message left that rank 0 can send to rank 1.
-fn all_but_one(broker: Broker) -> Broker {
-    let mut transit = broker.transit;
-    transit.sent[PAIR] = Transit::MOST_SENT - 1;
-    let mut next = broker;
-    next.transit = transit;
-    next
+fn all_but_one(mut broker: Broker) -> Broker {
+    broker.transit.sent[PAIR] = Transit::MOST_SENT - 1;
+    broker
 }
 
 // The state in which every pair has sent all that it can.
-fn all_sent(broker: Broker) -> Broker {
-    let sent = [Transit::MOST_SENT; CELLS];
-    let mut transit = broker.transit;
-    transit.sent = sent;
-    let mut next = broker;
-    next.transit = transit;
-    next
+fn all_sent(mut broker: Broker) -> Broker {
+    broker.transit.sent.fill(Transit::MOST_SENT);
+    broker
 }
 
 // The state in which rank 0 has sent rank 1 as many messages as the desk holds.
-fn full(start: Broker) -> Broker {
-    let mut broker = start;
-    let mut unread: usize = 0;
-    while unread < Transit::LIMIT {
-        let done = step(broker, b"\x04\x00\x01\xF4\x01\x00\x00", 0);
-        broker = done.broker;
-        unread += 1;
+fn full(mut broker: Broker) -> Broker {
+    for _ in 0..Transit::LIMIT {
+        broker = step(broker, b"\x04\x00\x01\xF4\x01\x00\x00", 0).broker;
     }
     broker
 }
 
-// Every record of a log, from a state: what each is answered, and the state afterwards.
-fn run(rt: &impl Print, start: Broker, log: &[u8]) -> io::Result<Broker> {
-    let mut broker = start;
+// Every record of a log, from a state: what each is answered, its number, 0 where the step is accepted, and its values; and the state
+// afterwards.
+fn run(rt: &impl Print, mut broker: Broker, log: &[u8]) -> io::Result<Broker> {
     let mut at: usize = 0;
     while at < log.len() {
         let done = step(broker, log, at);
-        let answer = done.answer;
-        tell(rt, number_of(answer), values_of(answer))?;
-        let next = done.next;
-        if next <= at {
+        let Values(first, second, third) = values_of(done.answer);
+        println!(rt; "{} {first} {second} {third}", number_of(done.answer))?;
+        if done.next <= at {
             return Ok(broker);
         }
         broker = done.broker;
-        at = next;
+        at = done.next;
     }
     Ok(broker)
 }
@@ -85,8 +63,7 @@ fn main(rt: HostRuntime) -> io::Result<()> {
         all_but_one(connected),
         b"\x04\x00\x01\xF4\x01\x00\x00\x04\x00\x01\xF5\x01\x00\x00\x04\x01\x00\xF6\x01\x00\x00\x05\x01\x00\x04\x00\x01\xF7\x01\x00\x00",
     )?;
-    let transit = broker.transit;
-    tell_sent(&rt, transit.sent[PAIR])?;
+    println!(rt; "{} sent", broker.transit.sent[PAIR])?;
     let crowd = run(
         &rt,
         connected,
