@@ -17,8 +17,7 @@ use transit::{CELLS, RANKS, Sequence, Transit};
 pub fn messages_sound(processes: [Process; RANKS], links: [Link; CELLS], t: Transit) -> bool
     ensures { result ≡ messages_sound processes links (unread_of t) }
 {
-    let count = t.count;
-    if Transit::LIMIT < count {
+    if Transit::LIMIT < t.count {
         return false;
     }
     // One more than the number of the place of each pair's last message, and 0 where it had none yet.
@@ -26,37 +25,27 @@ pub fn messages_sound(processes: [Process; RANKS], links: [Link; CELLS], t: Tran
     // The running number of each pair's last message, and 0 where it had none yet. Paper 02, change 4: "Sound pairs have unread numbers
     // rising within 1 to the count sent."
     let mut numbers: [Sequence; CELLS] = [0; CELLS];
-    let mut i: usize = 0;
-    while i < count {
-        let m = t.messages[i];
-        if !is_named(m) {
+    for m in &t.messages[..t.count] {
+        if !is_named(*m) {
             return false;
         }
         let from = m.sender.0 as usize;
         let to = m.receiver.0 as usize;
         let pair = RANKS * from + to;
-        let number = m.sequence;
-        let before = numbers[pair];
-        let sent = t.sent[pair];
-        if !((before < number) & (number <= sent)) {
+        if !((numbers[pair] < m.sequence) & (m.sequence <= t.sent[pair])) {
             return false;
         }
-        numbers[pair] = number;
-        let place = m.place;
-        let mark = place.number() + 1;
+        numbers[pair] = m.sequence;
+        let mark = m.place.number() + 1;
         if last[pair] != mark {
             if mark < last[pair] {
                 return false;
             }
-            let sender = processes[from];
-            let receiver = processes[to];
-            let back = links[RANKS * to + from];
-            if !message_fits(m, sender, receiver, back) {
+            if !message_fits(*m, processes[from], processes[to], links[RANKS * to + from]) {
                 return false;
             }
             last[pair] = mark;
         }
-        i += 1;
     }
     true
 }

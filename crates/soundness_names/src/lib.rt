@@ -14,13 +14,7 @@ use broker::state::Broker;
 pub fn is_drawn(drawn: [u16; 8], v: Vmid) -> bool
     ensures { result ≡ is_drawn_on drawn v }
 {
-    if v.0 < Broker::HOSTS {
-        let host = v.0 as usize;
-        let last = drawn[host];
-        (0 < v.1) & (v.1 <= last)
-    } else {
-        false
-    }
+    v.0 < Broker::HOSTS && (0 < v.1) & (v.1 <= drawn[v.0 as usize])
 }
 
 // Every vmid of a status is drawn.
@@ -29,9 +23,8 @@ pub fn vmids_drawn(drawn: [u16; 8], status: Status) -> bool
 {
     match status {
         Status::Unstarted => true,
-        Status::Running(v) => is_drawn(drawn, v),
+        Status::Running(v) | Status::Ended(v) => is_drawn(drawn, v),
         Status::Migrating(source, target) => is_drawn(drawn, source) & is_drawn(drawn, target),
-        Status::Ended(v) => is_drawn(drawn, v),
     }
 }
 
@@ -40,10 +33,9 @@ pub fn is_free(v: Vmid, status: Status) -> bool
     ensures { result ≡ every (λ w. not (same_vmid v w)) (processes_of status) }
 {
     match status {
-        Status::Unstarted => true,
-        Status::Running(w) => !v.same(w),
-        Status::Migrating(source, target) => !v.same(source) & !v.same(target),
-        Status::Ended(_) => true,
+        Status::Unstarted | Status::Ended(_) => true,
+        Status::Running(w) => v != w,
+        Status::Migrating(source, target) => (v != source) & (v != target),
     }
 }
 
@@ -52,10 +44,9 @@ pub fn share_none(one: Status, other: Status) -> bool
     ensures { result ≡ none_shared (processes_of one) (processes_of other) }
 {
     match one {
-        Status::Unstarted => true,
+        Status::Unstarted | Status::Ended(_) => true,
         Status::Running(v) => is_free(v, other),
         Status::Migrating(source, target) => is_free(source, other) & is_free(target, other),
-        Status::Ended(_) => true,
     }
 }
 
@@ -64,9 +55,7 @@ pub fn are_distinct(status: Status) -> bool
     ensures { result ≡ distinct (processes_of status) }
 {
     match status {
-        Status::Unstarted => true,
-        Status::Running(_) => true,
-        Status::Migrating(source, target) => !source.same(target),
-        Status::Ended(_) => true,
+        Status::Migrating(source, target) => source != target,
+        _ => true,
     }
 }

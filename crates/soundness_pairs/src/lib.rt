@@ -25,14 +25,14 @@ fn location_fits(drawn: [u16; 8], location: Vmid, status: Status) -> bool
     if status.is_started() {
         is_drawn(drawn, location)
     } else {
-        location.same(Vmid::unknown())
+        location == Vmid::unknown()
     }
 }
 
 fn vmids_apart(a: Rank, b: Rank, one: Status, other: Status) -> bool
     ensures { result ≡ vmids_apart a b one other }
 {
-    if a.0 == b.0 {
+    if a == b {
         are_distinct(one)
     } else {
         share_none(one, other)
@@ -96,11 +96,15 @@ fn pair_sound(
 ) -> bool
     ensures { result ≡ pair_sound drawn a b p q location there back }
 {
-    let one = p.status;
+    let Process {
+        status: one,
+        request,
+    } = p;
     let other = q.status;
-    let request = p.request;
-    let connection = there.connection;
-    let backlog = there.backlog;
+    let Link {
+        connection,
+        backlog,
+    } = there;
     let facing = back.connection;
     let named = location_fits(drawn, location, other) & vmids_apart(a, b, one, other);
     if holds_nothing(b, request, connection, backlog, facing) {
@@ -121,28 +125,18 @@ pub fn pairs_sound(
 ) -> bool
     ensures { result ≡ pairs_sound drawn processes locations links }
 {
-    let mut i: usize = 0;
-    while i < CELLS {
+    (0..CELLS).all(|i| {
         let a = i / RANKS;
         let b = i % RANKS;
-        let p = processes[a];
-        let q = processes[b];
-        let location = locations[i];
-        let there = links[i];
-        let back = links[RANKS * b + a];
-        if !pair_sound(
+        pair_sound(
             drawn,
             Rank(a as u8),
             Rank(b as u8),
-            p,
-            q,
-            location,
-            there,
-            back,
-        ) {
-            return false;
-        }
-        i += 1;
-    }
-    true
+            processes[a],
+            processes[b],
+            locations[i],
+            links[i],
+            links[RANKS * b + a],
+        )
+    })
 }

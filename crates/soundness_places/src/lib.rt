@@ -14,30 +14,25 @@ use transit::{Message, Place};
 pub fn is_named(m: Message) -> bool
     ensures { result ≡ is_named m }
 {
-    let from = m.sender.0;
-    let to = m.receiver.0;
-    (from < Broker::RANKS) & (to < Broker::RANKS) & !(from == to)
+    (m.sender.0 < Broker::RANKS) & (m.receiver.0 < Broker::RANKS) & (m.sender != m.receiver)
 }
 
 // A place by the receiver's status and its link to the sender, `back`.
 pub fn place_fits(place: Place, receiver: Status, back: Link) -> bool
     ensures { result ≡ place_fits place receiver back }
 {
-    let connection = back.connection;
-    let backlog = back.backlog;
-    let number = place.number();
-    let heeded = !backlog.is_unheeded() | (number == 0) | (number == 1);
-    let migrating = !((number == 0) | (number == 1)) | receiver.is_migrating();
-    let awaited = !(number == 1) | !backlog.is_clear();
-    let connected = !(number == 3) | !connection.is_closed();
+    let source = matches!(place, Place::SourceList | Place::SourceChannel);
+    let heeded = !back.backlog.is_unheeded() | source;
+    let migrating = !source | receiver.is_migrating();
+    let awaited = (place != Place::SourceChannel) | !back.backlog.is_clear();
+    let connected = (place != Place::Channel) | !back.connection.is_closed();
     heeded & (migrating & awaited & connected)
 }
 
 pub fn message_fits(m: Message, sender: Process, receiver: Process, back: Link) -> bool
     ensures { result ≡ message_fits m sender receiver back }
 {
-    let place = m.place;
-    let from = sender.status;
-    let to = receiver.status;
-    from.is_started() & to.is_live() & place_fits(place, to, back)
+    sender.status.is_started()
+        & receiver.status.is_live()
+        & place_fits(m.place, receiver.status, back)
 }

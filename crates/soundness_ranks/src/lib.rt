@@ -14,41 +14,27 @@ use transit::{CELLS, RANKS, Rank};
 fn request_drawn(drawn: [u16; 8], request: Option<Request>) -> bool
     ensures { result ≡ request_drawn drawn request }
 {
-    match request {
-        None => true,
-        Some(q) => (q.to.0 < Broker::RANKS) & is_drawn(drawn, q.vmid),
-    }
+    request.is_none_or(|q| (q.to.0 < Broker::RANKS) & is_drawn(drawn, q.vmid))
 }
 
 fn nothing_with_self(r: Rank, request: Option<Request>, own: Link) -> bool
     ensures { result ≡ nothing_with_self r request own }
 {
-    let connection = own.connection;
-    let backlog = own.backlog;
-    connection.is_closed() & backlog.is_clear() & !asks_for(request, r)
+    own.connection.is_closed() & own.backlog.is_clear() & !asks_for(request, r)
 }
 
 // A rank's process, and its link to itself.
 fn rank_sound(drawn: [u16; 8], r: Rank, p: Process, own: Link) -> bool
     ensures { result ≡ rank_sound drawn r p own }
 {
-    let status = p.status;
-    let request = p.request;
-    vmids_drawn(drawn, status) & request_drawn(drawn, request) & nothing_with_self(r, request, own)
+    vmids_drawn(drawn, p.status)
+        & request_drawn(drawn, p.request)
+        & nothing_with_self(r, p.request, own)
 }
 
 // Every rank, up to the first that fails.
 pub fn ranks_sound(drawn: [u16; 8], processes: [Process; RANKS], links: [Link; CELLS]) -> bool
     ensures { result ≡ ranks_sound drawn processes links }
 {
-    let mut i: usize = 0;
-    while i < RANKS {
-        let p = processes[i];
-        let own = links[RANKS * i + i];
-        if !rank_sound(drawn, Rank(i as u8), p, own) {
-            return false;
-        }
-        i += 1;
-    }
-    true
+    (0..RANKS).all(|i| rank_sound(drawn, Rank(i as u8), processes[i], links[RANKS * i + i]))
 }

@@ -1,18 +1,16 @@
-use Rattle.std.proofs.Common.{arith, sym, ◌∙◌, below_more}
-use Rattle.transit.specs.Message.{rank}
-use Rattle.protocol.specs.Laws.Ranks.{every_rank_of, every_rank_fails}
-use Rattle.soundness_ranks.specs.Ranks.{ranks_sound}
+use Rattle.std.proofs.Common.{rules, ◌≡◌, refl, ℕ, true, false}
+use Rattle.std.proofs.lemmas.Iterator.{cases_from_all, YieldsList-from_range}
+use borrow.Author.Tests.{tests}
+use Rattle.base.specs.Laws.Ranges.{all_below_told}
+use Rattle.broker.specs.Ranks.{every_rank}
+use Rattle.transit.specs.Message.{rank, ranks}
+use Rattle.soundness_ranks.specs.Ranks.{ranks_sound, rank_sound_at}
 use Rattle.soundness_ranks.proofs.ranks_sound.Goals as goal
 
-pub returns-then-not-rank_sound : goal.returns-then-not-rank_sound
-unfolding ranks_sound
-returns-then-not-rank_sound c =
-    let fails = sym c.rank_sound.ensures ∙ c.if-not-rank_sound.true in
-    sym (every_rank_fails _ (rank c.loop-i.i) (omega arith) fails)
-
-pub loop-i-preserved : goal.loop-i-preserved
-loop-i-preserved c = (omega arith, below_more _ _ c.loop-i.invariant.1 (sym c.rank_sound.ensures ∙ c.if-not-rank_sound.false))
-
 pub returns : goal.returns
-unfolding ranks_sound
-returns c = sym (every_rank_of _ (λ r b. c.loop-i.invariant.1 r.0 (omega arith)))
+unfolding ranks_sound every_rank
+returns c =
+    let sound = λ (k : ℕ). rank_sound_at c.args.drawn c.args.processes c.args.links (rank k) in
+    all_below_told ranks sound c.all.result
+    (cases_from_all _ _ _ (λ k. sound k ≡ true) (λ k. sound k ≡ false) c.all.ensures.ran (YieldsList-from_range 0 ranks ranks (cc) refl)
+    (λ x q k. search (rules, tests)) (λ x q k. search (rules, tests)))
