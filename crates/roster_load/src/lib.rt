@@ -24,10 +24,8 @@ pub fn clear(roster: &mut Roster)
     requires { Whole roster.old }
     ensures { Holds roster.new fresh }
 {
-    let mut i: usize = 0;
-    while i < ROSTER_LENGTH {
+    for i in 0..ROSTER_LENGTH {
         roster[i] = 0;
-        i += 1;
     }
 }
 
@@ -36,8 +34,7 @@ fn load_processes(processes: [Process; RANKS], roster: &mut Roster)
     requires { Whole roster.old }
     ensures { Holds roster.new (with_processes processes (ranks_of roster.old)) }
 {
-    let mut i: usize = 0;
-    while i < RANKS {
+    for i in 0..RANKS {
         let p = processes[i];
         let standing = p.status;
         let request = p.request;
@@ -45,7 +42,6 @@ fn load_processes(processes: [Process; RANKS], roster: &mut Roster)
         let w = encode_request(request);
         roster[i] = v;
         roster[REQUESTS + i] = w;
-        i += 1;
     }
 }
 
@@ -57,11 +53,9 @@ fn row_of(locations: [Vmid; CELLS], a: usize) -> [Vmid; RANKS]
     let unknown = Vmid::unknown();
     let mut row = [unknown; RANKS];
     let start = RANKS * a;
-    let mut i: usize = 0;
-    while i < RANKS {
+    for i in 0..RANKS {
         let v = locations[start + i];
         row[i] = v;
-        i += 1;
     }
     row
 }
@@ -71,18 +65,14 @@ fn load_locations(locations: [Vmid; CELLS], roster: &mut Roster)
     requires { Whole roster.old }
     ensures { Holds roster.new (with_locations locations (ranks_of roster.old)) }
 {
-    let mut a: usize = 0;
-    while a < RANKS {
+    for a in 0..RANKS {
         let row = row_of(locations, a);
         let into = RANKS * a;
-        let mut i: usize = 0;
-        while i < RANKS {
+        for i in 0..RANKS {
             let v = row[i];
             let w = encode_vmid(v);
             roster[LOCATIONS + (into + i)] = w;
-            i += 1;
         }
-        a += 1;
     }
 }
 
@@ -91,12 +81,10 @@ fn load_links(links: [Link; CELLS], roster: &mut Roster)
     requires { Whole roster.old }
     ensures { Holds roster.new (with_links links (ranks_of roster.old)) }
 {
-    let mut i: usize = 0;
-    while i < CELLS {
+    for i in 0..CELLS {
         let link = links[i];
         let w = encode_link(link);
         roster[LINKS + i] = w;
-        i += 1;
     }
 }
 
@@ -105,11 +93,9 @@ fn load_drawn(drawn: [u16; 8], roster: &mut Roster)
     requires { Whole roster.old }
     ensures { Holds roster.new (with_all_drawn drawn (ranks_of roster.old)) }
 {
-    let mut i: usize = 0;
-    while i < 8 {
+    for i in 0..8 {
         let w = encode_drawn(drawn[i]);
         roster[DRAWN + i] = w;
-        i += 1;
     }
 }
 
@@ -130,7 +116,6 @@ pub fn load(broker: Broker, roster: &mut Roster)
 
 // All standings and calls, out of the roster.
 fn processes_in(roster: &Roster) -> [Process; RANKS]
-    requires { Whole roster.now }
     ensures { result ≡ (ranks_of roster.now).processes }
 {
     let idle = Process {
@@ -138,63 +123,51 @@ fn processes_in(roster: &Roster) -> [Process; RANKS]
         request: None,
     };
     let mut processes = [idle; RANKS];
-    let mut i: usize = 0;
-    while i < RANKS {
+    for i in 0..RANKS {
         let standing = decode_standing(roster[i]);
         let request = decode_request(roster[REQUESTS + i]);
-        let p = Process {
+        processes[i] = Process {
             status: standing,
-            request: request,
+            request,
         };
-        processes[i] = p;
-        i += 1;
     }
     processes
 }
 
 // The table of the rank `a`, out of the roster.
 fn row_in(a: usize, roster: &Roster) -> [Vmid; RANKS]
-    requires whole { Whole roster.now }
-    requires a_lt_ranks { a < ranks }
+    requires { a < ranks }
     ensures { result ≡ row_in a roster.now }
 {
     let unknown = Vmid::unknown();
     let mut row = [unknown; RANKS];
     let start = RANKS * a;
-    let mut i: usize = 0;
-    while i < RANKS {
+    for i in 0..RANKS {
         let v = decode_vmid(roster[LOCATIONS + (start + i)]);
         row[i] = v;
-        i += 1;
     }
     row
 }
 
 // All tables, row by row, out of the roster.
 fn locations_in(roster: &Roster) -> [Vmid; CELLS]
-    requires { Whole roster.now }
     ensures { result ≡ (ranks_of roster.now).locations }
 {
     let unknown = Vmid::unknown();
     let mut locations = [unknown; CELLS];
-    let mut a: usize = 0;
-    while a < RANKS {
+    for a in 0..RANKS {
         let row = row_in(a, roster);
         let start = RANKS * a;
-        let mut i: usize = 0;
-        while i < RANKS {
+        for i in 0..RANKS {
             let v = row[i];
             locations[start + i] = v;
-            i += 1;
         }
-        a += 1;
     }
     locations
 }
 
 // All lines and awaits, out of the roster.
 fn links_in(roster: &Roster) -> [Link; CELLS]
-    requires { Whole roster.now }
     ensures { result ≡ (ranks_of roster.now).links }
 {
     let apart = Link {
@@ -202,43 +175,38 @@ fn links_in(roster: &Roster) -> [Link; CELLS]
         backlog: Backlog::Clear,
     };
     let mut links = [apart; CELLS];
-    let mut i: usize = 0;
-    while i < CELLS {
+    for i in 0..CELLS {
         let link = decode_link(roster[LINKS + i]);
         links[i] = link;
-        i += 1;
     }
     links
 }
 
 // The numbers drawn on all hosts, out of the roster.
 fn drawn_in(roster: &Roster) -> [u16; 8]
-    requires { Whole roster.now }
     ensures { result ≡ (ranks_of roster.now).drawn }
 {
     let mut drawn = [0u16; 8];
-    let mut i: usize = 0;
-    while i < 8 {
+    for i in 0..8 {
         let n = decode_drawn(roster[DRAWN + i]);
         drawn[i] = n;
-        i += 1;
     }
     drawn
 }
 
 // The state by value with all of it but its messages as the roster has it.
 pub fn unload(broker: Broker, roster: &Roster) -> Broker
-    requires { Whole roster.now }
     ensures { view result ≡ with_unread (view broker).unread (ranks_of roster.now) }
 {
     let processes = processes_in(roster);
     let locations = locations_in(roster);
     let links = links_in(roster);
     let drawn = drawn_in(roster);
-    let mut next = broker;
-    next.processes = processes;
-    next.locations = locations;
-    next.links = links;
-    next.drawn = drawn;
-    next
+    Broker {
+        processes,
+        locations,
+        links,
+        drawn,
+        ..broker
+    }
 }

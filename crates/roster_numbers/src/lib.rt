@@ -141,11 +141,11 @@ fn encode_await(backlog: Backlog) -> u64
 pub fn decode_link(w: u64) -> Link
     ensures { result ≡ link_of w }
 {
-    let line = decode_line(w % 4);
+    let connection = decode_line(w % 4);
     let backlog = decode_await(w / 4);
     Link {
-        connection: line,
-        backlog: backlog,
+        connection,
+        backlog,
     }
 }
 

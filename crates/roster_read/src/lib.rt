@@ -3,7 +3,7 @@
 
 ghost use Rattle.std.specs.Prelude.{◌≡◌};
 ghost use Rattle.broker.specs.State.{status, request, location, link_at, drawn_on};
-ghost use Rattle.roster.specs.Roster.{ranks_of, Whole};
+ghost use Rattle.roster.specs.Roster.{ranks_of};
 
 use broker::link::{Backlog, Connection, Link};
 use broker::process::{Request, Status, Vmid};
@@ -13,7 +13,6 @@ use transit::{CELLS, RANKS, Rank};
 
 // A rank's standing.
 pub fn standing_of(r: Rank, roster: &Roster) -> Status
-    requires { Whole roster.now }
     ensures { result ≡ status (ranks_of roster.now) r }
 {
     let i = r.0 as usize;
@@ -25,7 +24,6 @@ pub fn standing_of(r: Rank, roster: &Roster) -> Status
 
 // A rank's call.
 pub fn request_of(r: Rank, roster: &Roster) -> Option<Request>
-    requires { Whole roster.now }
     ensures { result ≡ request (ranks_of roster.now) r }
 {
     let i = r.0 as usize;
@@ -37,7 +35,6 @@ pub fn request_of(r: Rank, roster: &Roster) -> Option<Request>
 
 // `a`'s table entry for `b`.
 pub fn location_of(a: Rank, b: Rank, roster: &Roster) -> Vmid
-    requires { Whole roster.now }
     ensures { result ≡ location (ranks_of roster.now) a b }
 {
     let i = cell(a, b);
@@ -49,7 +46,6 @@ pub fn location_of(a: Rank, b: Rank, roster: &Roster) -> Vmid
 
 // `a`'s line to `b` and its await of `b`.
 pub fn link_between(a: Rank, b: Rank, roster: &Roster) -> Link
-    requires { Whole roster.now }
     ensures { result ≡ link_at (ranks_of roster.now).links a b }
 {
     let i = cell(a, b);
@@ -64,7 +60,6 @@ pub fn link_between(a: Rank, b: Rank, roster: &Roster) -> Link
 
 // How many numbers are drawn on the host.
 pub fn drawn_on(host: u8, roster: &Roster) -> u16
-    requires { Whole roster.now }
     ensures { result ≡ drawn_on (ranks_of roster.now) host }
 {
     let i = host as usize;

@@ -114,10 +114,8 @@ pub fn announce(r: Rank, vmid: Vmid, roster: &mut Roster)
     ensures { Holds roster.new
         (with_locations (announced r vmid (ranks_of roster.old).locations) (ranks_of roster.old)) }
 {
-    let mut i: u8 = 0;
-    while i < Broker::RANKS {
+    for i in 0..Broker::RANKS {
         set_location(Rank(i), r, vmid, roster);
-        i += 1;
     }
 }
 

@@ -1,12 +1,18 @@
-use Rattle.std.proofs.Common.{sym, ◌∙◌, arith}
-use Rattle.transit.specs.Message.{rank}
-use Rattle.protocol.specs.Laws.Ranks.{every_rank_of, every_rank_fails}
+use Rattle.std.proofs.Common.{rules, ◌≡◌, refl, ℕ, true, false}
+use Rattle.std.proofs.lemmas.Iterator.{cases_from_all, YieldsList-from_range}
+use borrow.Author.Tests.{tests}
+use Rattle.base.specs.Laws.Ranges.{all_below_told}
+use Rattle.broker.specs.Names.{is_closed}
+use Rattle.broker.specs.Ranks.{every_rank}
+use Rattle.broker.specs.State.{link_at}
+use Rattle.roster.specs.Roster.{ranks_of}
+use Rattle.transit.specs.Message.{rank, ranks}
 use Rattle.roster_awaits.proofs.alone.Goals as goal
 
-pub returns-then-not-is_closed : goal.returns-then-not-is_closed
-returns-then-not-is_closed c =
-    let fails = sym c.is_closed.ensures ∙ c.if-not-is_closed.true in
-    sym (every_rank_fails _ (rank c.loop-i.i) (omega arith) (rw c.link_between-link.ensures at fails))
-
 pub returns : goal.returns
-returns c = sym (every_rank_of _ (λ r b. c.loop-i.invariant.1 r.0 (omega arith)))
+unfolding every_rank
+returns c =
+    let closed = λ (k : ℕ). is_closed (link_at (ranks_of c.args.roster.now).links c.args.r (rank k)).connection in
+    all_below_told ranks closed c.all.result
+    (cases_from_all _ _ _ (λ k. closed k ≡ true) (λ k. closed k ≡ false) c.all.ensures.ran (YieldsList-from_range 0 ranks ranks (cc) refl)
+    (λ x q k. search (rules, tests)) (λ x q k. search (rules, tests)))

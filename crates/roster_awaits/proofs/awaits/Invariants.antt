@@ -1,5 +1,5 @@
 -- The loop's invariant: `n` is the count of the awaits of the ranks below `i`. Assumes nothing.
-use Rattle.std.proofs.Common.{◌≡◌, ℕ, ◌-◌, ◌≤◌, Bool, not, List}
+use Rattle.std.proofs.Common.{◌≡◌, ℕ, ◌≤◌, Bool, not, List}
 use Rattle.transit.specs.Message.{rank, ranks}
 use Rattle.transit.specs.declared.Rank.{Rank}
 use Rattle.base.specs.Below.{count_below}
@@ -14,6 +14,3 @@ awaited r roster k = not (is_clear (link_at (ranks_of roster).links r (rank k)).
 
 abbrev pub invariant-loop-i : goal.invariant-loop-i
 invariant-loop-i l = (l.i ≤ ranks) × (l.n ≤ l.i) × (l.n ≡ count_below l.i (awaited l.r l.roster))
-
-abbrev pub decreases-loop-i : goal.decreases-loop-i
-decreases-loop-i l = ranks - l.i

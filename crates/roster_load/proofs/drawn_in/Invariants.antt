@@ -1,5 +1,4 @@
 -- The loop's invariant: the numbers so far are copied. Assumes nothing.
-use Rattle.std.proofs.Common.{◌-◌}
 use Rattle.broker.specs.Names.{hosts}
 use Rattle.roster.specs.Loaded.{Copying}
 use Rattle.roster.specs.Roster.{drawn_in}
@@ -7,6 +6,3 @@ use Rattle.roster_load.proofs.drawn_in.Given as goal
 
 abbrev pub invariant-loop-i : goal.invariant-loop-i
 invariant-loop-i l = Copying (drawn_in l.roster) 0 hosts l.i l.drawn
-
-abbrev pub decreases-loop-i : goal.decreases-loop-i
-decreases-loop-i l = hosts - l.i

@@ -1,5 +1,4 @@
 -- The loop's invariant: the links so far are copied. Assumes nothing.
-use Rattle.std.proofs.Common.{◌-◌}
 use Rattle.transit.specs.Message.{cells}
 use Rattle.broker.specs.State.{apart}
 use Rattle.roster.specs.Loaded.{Copying}
@@ -8,6 +7,3 @@ use Rattle.roster_load.proofs.links_in.Given as goal
 
 abbrev pub invariant-loop-i : goal.invariant-loop-i
 invariant-loop-i l = Copying (link_in l.roster) apart cells l.i l.links
-
-abbrev pub decreases-loop-i : goal.decreases-loop-i
-decreases-loop-i l = cells - l.i

@@ -1,5 +1,5 @@
 -- The loop's invariant: the tables so far are filled in. Assumes nothing.
-use Rattle.std.proofs.Common.{◌+◌, ◌-◌, ◌*◌, ◌≤◌}
+use Rattle.std.proofs.Common.{◌+◌, ◌*◌, ◌≤◌}
 use Rattle.transit.specs.Message.{ranks}
 use Rattle.broker.specs.Names.{unknown}
 use Rattle.roster.specs.Loaded.{Filled}
@@ -11,12 +11,6 @@ invariant-loop-i l =
     (l.i ≤ ranks) ×
     Filled location_in unknown l.locations (ranks * l.a + l.i) LOCATIONS LINKS l.initial.roster l.roster
 
-abbrev pub decreases-loop-i : goal.decreases-loop-i
-decreases-loop-i l = ranks - l.i
-
 abbrev pub invariant-loop-a : goal.invariant-loop-a
 invariant-loop-a l =
     (l.a ≤ ranks) × Filled location_in unknown l.locations (ranks * l.a) LOCATIONS LINKS l.initial.roster l.roster
-
-abbrev pub decreases-loop-a : goal.decreases-loop-a
-decreases-loop-a l = ranks - l.a

@@ -1,5 +1,5 @@
 -- The loops' invariants: so many entries are copied. Assumes nothing.
-use Rattle.std.proofs.Common.{◌+◌, ◌-◌, ◌*◌, ◌≤◌}
+use Rattle.std.proofs.Common.{◌+◌, ◌*◌, ◌≤◌}
 use Rattle.transit.specs.Message.{ranks, cells}
 use Rattle.broker.specs.Names.{unknown}
 use Rattle.roster.specs.Loaded.{Copying}
@@ -10,11 +10,5 @@ abbrev pub invariant-loop-i : goal.invariant-loop-i
 invariant-loop-i l =
     (l.i ≤ ranks) × Copying (location_in l.roster) unknown cells (ranks * l.a + l.i) l.locations
 
-abbrev pub decreases-loop-i : goal.decreases-loop-i
-decreases-loop-i l = ranks - l.i
-
 abbrev pub invariant-loop-a : goal.invariant-loop-a
 invariant-loop-a l = Copying (location_in l.roster) unknown cells (ranks * l.a) l.locations
-
-abbrev pub decreases-loop-a : goal.decreases-loop-a
-decreases-loop-a l = ranks - l.a

@@ -1,5 +1,4 @@
 -- The loop's invariant: the processes so far are copied. Assumes nothing.
-use Rattle.std.proofs.Common.{◌-◌}
 use Rattle.transit.specs.Message.{ranks}
 use Rattle.broker.specs.State.{idle}
 use Rattle.roster.specs.Loaded.{Copying}
@@ -8,6 +7,3 @@ use Rattle.roster_load.proofs.processes_in.Given as goal
 
 abbrev pub invariant-loop-i : goal.invariant-loop-i
 invariant-loop-i l = Copying (process_in l.roster) idle ranks l.i l.processes
-
-abbrev pub decreases-loop-i : goal.decreases-loop-i
-decreases-loop-i l = ranks - l.i

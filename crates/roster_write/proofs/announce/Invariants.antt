@@ -1,5 +1,5 @@
 -- The loop's invariant: the ranks so far are told. Assumes nothing.
-use Rattle.std.proofs.Common.{◌-◌, ◌≤◌, set}
+use Rattle.std.proofs.Common.{◌≤◌, set}
 use Rattle.transit.specs.Message.{rank, ranks}
 use Rattle.base.specs.Below.{each_below}
 use Rattle.broker.specs.State.{cell, with_locations}
@@ -13,6 +13,3 @@ invariant-loop-i l =
     (with_locations
     (each_below l.i (λ p xs. set xs (cell (rank p) l.r) l.vmid) (ranks_of l.initial.roster).locations)
     (ranks_of l.initial.roster))
-
-abbrev pub decreases-loop-i : goal.decreases-loop-i
-decreases-loop-i l = ranks - l.i
