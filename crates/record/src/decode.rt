@@ -1,94 +1,61 @@
 // The record at a position of a log. Paper 01, "The step log".
-ghost use Rattle.std.specs.Prelude.{true, ◌≡◌, ◌+◌, ◌<◌, ◌^◌, get_or};
-ghost use Rattle.record.specs.Kind.{value_bytes};
-ghost use Rattle.record.specs.Record.{is_kind, body_length, number_at, record_of, decode};
+ghost use Rattle.std.specs.Prelude.{◌≡◌, length};
+ghost use Rattle.record.specs.Kinds.{number_of};
+ghost use Rattle.record.specs.Record.{is_kind, body_length, record_of, decode};
 
+use crate::kind::Kind;
 use crate::{Fault, Record};
 use transit::{Rank, Value};
 
-// How many kinds there are: 01 to 0C.
-const KINDS: u8 = 12;
-
-pub fn is_kind(kind: u8) -> bool
-    ensures { result ≡ is_kind kind }
+pub fn is_kind(byte: u8) -> bool
+    ensures { result ≡ is_kind byte }
 {
-    (1 <= kind) & (kind <= KINDS)
+    Kind::try_from(byte).is_ok()
 }
 
 // How many bytes follow a kind.
-fn body_length(kind: u8) -> usize
-    requires { is_kind kind ≡ true }
-    ensures { result ≡ body_length kind }
+fn body_length(kind: Kind) -> usize
+    ensures { result ≡ body_length (number_of kind) }
 {
     match kind {
-        4 => 6,
-        9 => 1,
-        11 => 1,
-        12 => 1,
+        Kind::Send => 6,
+        Kind::Land | Kind::End | Kind::Look => 1,
         _ => 2,
     }
 }
 
-// The byte at a position, and 0 past the end.
-fn byte_at(bytes: &[u8], at: usize) -> u8
-    ensures { result ≡ get_or bytes.now at 0 }
-{
-    if at < bytes.len() { bytes[at] } else { 0 }
-}
-
-// Four bytes, least significant first.
-fn value_at(bytes: &[u8], at: usize) -> u32
-    requires { at + 3 < 2 ^ 64 }
-    ensures { result ≡ number_at value_bytes at bytes.now }
-{
-    let b0 = byte_at(bytes, at);
-    let b1 = byte_at(bytes, at + 1);
-    let b2 = byte_at(bytes, at + 2);
-    let b3 = byte_at(bytes, at + 3);
-    (b0 as u32) + 256 * (b1 as u32) + 65536 * (b2 as u32) + 16777216 * (b3 as u32)
-}
-
 // The record of a kind, by the bytes of its body.
-fn record_of(kind: u8, body: &[u8]) -> Record
-    requires { is_kind kind ≡ true }
-    ensures { result ≡ record_of kind body.now }
+#[tactic(auto, unfolding(crate::specs::Record::record_of))]
+fn record_of(kind: Kind, body: &[u8]) -> Record
+    requires { length body.now ≡ body_length (number_of kind) }
+    ensures { result ≡ record_of (number_of kind) body.now }
 {
-    let second = byte_at(body, 1);
-    let a = Rank(byte_at(body, 0));
-    let b = Rank(second);
+    let a = Rank(body[0]);
     match kind {
-        1 => Record::Start(a, second),
-        2 => Record::Call(a, b),
-        3 => Record::Route(a, b),
-        4 => Record::Send(a, b, value_at(body, 2) as Value),
-        5 => Record::Take(a, b),
-        6 => Record::Move(a, second),
-        7 => Record::Heed(a, b),
-        8 => Record::Drain(a, b),
-        9 => Record::Land(a),
-        10 => Record::Part(a, b),
-        11 => Record::End(a),
-        _ => Record::Look(a),
+        Kind::Start => Record::Start(a, body[1]),
+        Kind::Call => Record::Call(a, Rank(body[1])),
+        Kind::Route => Record::Route(a, Rank(body[1])),
+        Kind::Send => {
+            let value = Value::from_le_bytes([body[2], body[3], body[4], body[5]]);
+            Record::Send(a, Rank(body[1]), value)
+        }
+        Kind::Take => Record::Take(a, Rank(body[1])),
+        Kind::Move => Record::Move(a, body[1]),
+        Kind::Heed => Record::Heed(a, Rank(body[1])),
+        Kind::Drain => Record::Drain(a, Rank(body[1])),
+        Kind::Land => Record::Land(a),
+        Kind::Part => Record::Part(a, Rank(body[1])),
+        Kind::End => Record::End(a),
+        Kind::Look => Record::Look(a),
     }
 }
 
-// What stands at a position: a whole record, a kind that is none, or the log's end or a body cut short.
+// What stands at a position: a record and the position after it, or why none does.
 pub fn decode(log: &[u8], at: usize) -> Result<(Record, usize), Fault>
     ensures { result ≡ decode log.now at }
 {
-    let end = log.len();
-    if end <= at {
-        return Err(Fault::Cut);
-    }
-    let kind = log[at];
-    if !is_kind(kind) {
-        return Err(Fault::Unknown);
-    }
-    let body = at + 1;
-    let long = body_length(kind);
-    if end - body < long {
-        return Err(Fault::Cut);
-    }
-    let next = body + long;
-    Ok((record_of(kind, &log[body..next]), next))
+    let byte = log.get(at).ok_or(Fault::Cut)?;
+    let kind = Kind::try_from(*byte)?;
+    let body = log[at + 1..].get(..body_length(kind)).ok_or(Fault::Cut)?;
+    Ok((record_of(kind, body), at + 1 + body.len()))
 }

@@ -8,9 +8,10 @@ use answer::Refusal;
 use transit::{Rank, Value};
 
 pub mod decode;
+mod kind;
 
 // A record: its kind, and its body in the log's order. A host is a plain byte.
-#[derive(Clone, Copy)]
+#[derive(Clone, Copy, PartialEq, Eq)]
 pub enum Record {
     Start(Rank, u8),
     Call(Rank, Rank),

@@ -21,6 +21,7 @@ pub const FOUND: [&str; 34] = [
     "made_up_pass.specs.Laws.Piece.piece_less",
     "print_buffer.specs.Laws.Buffer.all_moved",
     "print_lines.specs.Laws.Parts.one_line",
+    "record.specs.Laws.Record.kind_least",
     "replay_course.specs.Laws.Course.used_fits",
     "replay_course.specs.Laws.Ends.less_read",
     "replay_course.specs.Laws.Ends.less_turn",
