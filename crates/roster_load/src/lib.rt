@@ -7,12 +7,12 @@ ghost use Rattle.transit.specs.Message.{ranks};
 ghost use Rattle.transit.specs.Unread.{nothing};
 ghost use Rattle.broker.specs.State.{view, fresh, with_locations, with_links, with_unread};
 ghost use Rattle.roster.specs.Loaded.{row_of, row_in, with_processes, with_all_drawn};
-ghost use Rattle.roster.specs.Roster.{ranks_of, Holds, Whole};
+ghost use Rattle.roster.specs.Roster.{ranks_of, Holds};
 
 use broker::link::{Backlog, Connection, Link};
 use broker::process::{Process, Status, Vmid};
 use broker::state::Broker;
-use roster::{DRAWN, LINKS, LOCATIONS, REQUESTS, ROSTER_LENGTH, Roster};
+use roster::{DRAWN, LINKS, LOCATIONS, REQUESTS, Roster};
 use roster_numbers::{
     decode_drawn, decode_link, decode_request, decode_standing, decode_vmid, encode_drawn,
     encode_link, encode_request, encode_standing, encode_vmid,
@@ -21,17 +21,13 @@ use transit::{CELLS, RANKS};
 
 // Nothing is known of any rank: the fresh state.
 pub fn clear(roster: &mut Roster)
-    requires { Whole roster.old }
     ensures { Holds roster.new fresh }
 {
-    for i in 0..ROSTER_LENGTH {
-        roster[i] = 0;
-    }
+    roster.fill(0);
 }
 
 // All standings and calls.
 fn load_processes(processes: [Process; RANKS], roster: &mut Roster)
-    requires { Whole roster.old }
     ensures { Holds roster.new (with_processes processes (ranks_of roster.old)) }
 {
     for i in 0..RANKS {
@@ -62,7 +58,6 @@ fn row_of(locations: [Vmid; CELLS], a: usize) -> [Vmid; RANKS]
 
 // All tables, row by row.
 fn load_locations(locations: [Vmid; CELLS], roster: &mut Roster)
-    requires { Whole roster.old }
     ensures { Holds roster.new (with_locations locations (ranks_of roster.old)) }
 {
     for a in 0..RANKS {
@@ -78,7 +73,6 @@ fn load_locations(locations: [Vmid; CELLS], roster: &mut Roster)
 
 // All lines and awaits.
 fn load_links(links: [Link; CELLS], roster: &mut Roster)
-    requires { Whole roster.old }
     ensures { Holds roster.new (with_links links (ranks_of roster.old)) }
 {
     for i in 0..CELLS {
@@ -90,7 +84,6 @@ fn load_links(links: [Link; CELLS], roster: &mut Roster)
 
 // The numbers drawn on all hosts.
 fn load_drawn(drawn: [u16; 8], roster: &mut Roster)
-    requires { Whole roster.old }
     ensures { Holds roster.new (with_all_drawn drawn (ranks_of roster.old)) }
 {
     for i in 0..8 {
@@ -101,7 +94,6 @@ fn load_drawn(drawn: [u16; 8], roster: &mut Roster)
 
 // All of a state by value but its messages.
 pub fn load(broker: Broker, roster: &mut Roster)
-    requires { Whole roster.old }
     ensures { Holds roster.new (with_unread nothing (view broker)) }
 {
     let processes = broker.processes;

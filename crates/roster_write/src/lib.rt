@@ -6,7 +6,7 @@ ghost use Rattle.std.specs.Prelude.{set};
 ghost use Rattle.broker.specs.State.{connect, await, cell, set_link, with_status, with_request, with_locations, with_links, with_drawn};
 ghost use Rattle.protocol.specs.Connect.{connect_both};
 ghost use Rattle.protocol.specs.Life.{announced};
-ghost use Rattle.roster.specs.Roster.{ranks_of, Holds, Whole};
+ghost use Rattle.roster.specs.Roster.{ranks_of, Holds};
 
 use broker::link::{Backlog, Connection, Link};
 use broker::process::{Request, Status, Vmid};
@@ -18,7 +18,6 @@ use transit::{CELLS, RANKS, Rank};
 
 // A rank's standing.
 pub fn set_standing(r: Rank, standing: Status, roster: &mut Roster)
-    requires { Whole roster.old }
     ensures { Holds roster.new (with_status r standing (ranks_of roster.old)) }
 {
     let i = r.0 as usize;
@@ -30,7 +29,6 @@ pub fn set_standing(r: Rank, standing: Status, roster: &mut Roster)
 
 // A rank's call.
 pub fn set_request(r: Rank, request: Option<Request>, roster: &mut Roster)
-    requires { Whole roster.old }
     ensures { Holds roster.new (with_request r request (ranks_of roster.old)) }
 {
     let i = r.0 as usize;
@@ -42,7 +40,6 @@ pub fn set_request(r: Rank, request: Option<Request>, roster: &mut Roster)
 
 // `a`'s table entry for `b`.
 pub fn set_location(a: Rank, b: Rank, vmid: Vmid, roster: &mut Roster)
-    requires { Whole roster.old }
     ensures { Holds roster.new
         (with_locations (set (ranks_of roster.old).locations (cell a b) vmid) (ranks_of roster.old)) }
 {
@@ -55,7 +52,6 @@ pub fn set_location(a: Rank, b: Rank, vmid: Vmid, roster: &mut Roster)
 
 // `a`'s line to `b` and its await of `b`.
 pub fn set_link(a: Rank, b: Rank, link: Link, roster: &mut Roster)
-    requires { Whole roster.old }
     ensures { Holds roster.new
         (with_links (set_link (ranks_of roster.old).links a b link) (ranks_of roster.old)) }
 {
@@ -68,7 +64,6 @@ pub fn set_link(a: Rank, b: Rank, link: Link, roster: &mut Roster)
 
 // How many numbers are drawn on the host.
 pub fn set_drawn(host: u8, number: u16, roster: &mut Roster)
-    requires { Whole roster.old }
     ensures { Holds roster.new (with_drawn host number (ranks_of roster.old)) }
 {
     let i = host as usize;
@@ -80,7 +75,6 @@ pub fn set_drawn(host: u8, number: u16, roster: &mut Roster)
 
 // `a`'s line to `b`, and nothing else.
 pub fn connect(a: Rank, b: Rank, line: Connection, roster: &mut Roster)
-    requires { Whole roster.old }
     ensures { Holds roster.new
         (with_links (connect a b line (ranks_of roster.old).links) (ranks_of roster.old)) }
 {
@@ -95,7 +89,6 @@ pub fn connect(a: Rank, b: Rank, line: Connection, roster: &mut Roster)
 
 // `r`'s await of `p`, and nothing else.
 pub fn awaiting(r: Rank, p: Rank, backlog: Backlog, roster: &mut Roster)
-    requires { Whole roster.old }
     ensures { Holds roster.new
         (with_links (await r p backlog (ranks_of roster.old).links) (ranks_of roster.old)) }
 {
@@ -110,7 +103,6 @@ pub fn awaiting(r: Rank, p: Rank, backlog: Backlog, roster: &mut Roster)
 
 // Everybody's entry for `r` becomes `vmid`.
 pub fn announce(r: Rank, vmid: Vmid, roster: &mut Roster)
-    requires { Whole roster.old }
     ensures { Holds roster.new
         (with_locations (announced r vmid (ranks_of roster.old).locations) (ranks_of roster.old)) }
 {
@@ -121,7 +113,6 @@ pub fn announce(r: Rank, vmid: Vmid, roster: &mut Roster)
 
 // Both lines between `a` and `b`.
 pub fn connect_both(a: Rank, b: Rank, line: Connection, roster: &mut Roster)
-    requires { Whole roster.old }
     ensures { Holds roster.new (connect_both a b line (ranks_of roster.old)) }
 {
     connect(a, b, line, roster);

@@ -16,16 +16,14 @@ use soundness_ranks::ranks_sound;
 pub fn is_sound(broker: Broker) -> bool
     ensures { result ≡ sound (view broker) }
 {
-    let drawn = broker.drawn;
-    let processes = broker.processes;
-    let links = broker.links;
-    if !ranks_sound(drawn, processes, links) {
-        return false;
-    }
-    let locations = broker.locations;
-    if !pairs_sound(drawn, processes, locations, links) {
-        return false;
-    }
-    let transit = broker.transit;
-    messages_sound(processes, links, transit)
+    let Broker {
+        processes,
+        locations,
+        links,
+        drawn,
+        transit,
+    } = broker;
+    ranks_sound(drawn, processes, links)
+        && pairs_sound(drawn, processes, locations, links)
+        && messages_sound(processes, links, transit)
 }

@@ -11,9 +11,9 @@ pub returns-then-i-lt8 : goal.returns-then-i-lt8
 unfolding ranks_of
 returns-then-i-lt8 c =
     let roster = c.args.roster.now in
-    drawn_only (stored roster (DRAWN + c.args.host) c.encode_drawn-w.result c.requires (omega arith) (omega arith))
+    drawn_only (stored roster (DRAWN + c.args.host) c.encode_drawn-w.result (omega arith) (omega arith) (omega arith))
     (column_set drawn_of DRAWN hosts roster c.if-i-lt8.true (omega arith) c.encode_drawn-w.ensures)
 
 pub returns-else-i-lt8 : goal.returns-else-i-lt8
 unfolding ranks_of
-returns-else-i-lt8 c = record { long = c.requires; same = rw (tabulate_set_past _ _ _ _ c.if-i-lt8.false) }
+returns-else-i-lt8 c = record { long = omega arith; same = rw (tabulate_set_past _ _ _ _ c.if-i-lt8.false) }

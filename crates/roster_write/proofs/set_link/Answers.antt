@@ -13,10 +13,10 @@ returns-then-i-lt-CELLS c =
     let cell = c.cell-i in
     let roster = c.args.roster.now in
     rw (← cell.ensures)
-    (links_only (stored roster (LINKS + cell.result) c.encode_link-w.result c.requires (omega arith) (omega arith))
+    (links_only (stored roster (LINKS + cell.result) c.encode_link-w.result (omega arith) (omega arith) (omega arith))
     (column_set link_of LINKS cells roster c.if-i-lt-CELLS.true (omega arith) c.encode_link-w.ensures))
 
 pub returns-else-i-lt-CELLS : goal.returns-else-i-lt-CELLS
 unfolding ranks_of
 returns-else-i-lt-CELLS c =
-    record { long = c.requires; same = rw (← c.cell-i.ensures, tabulate_set_past _ _ _ _ c.if-i-lt-CELLS.false) }
+    record { long = omega arith; same = rw (← c.cell-i.ensures, tabulate_set_past _ _ _ _ c.if-i-lt-CELLS.false) }

@@ -13,10 +13,10 @@ returns-then-i-lt-CELLS c =
     let cell = c.cell-i in
     let roster = c.args.roster.now in
     rw (← cell.ensures)
-    (locations_only (stored roster (LOCATIONS + cell.result) c.encode_vmid-w.result c.requires (omega arith) (omega arith))
+    (locations_only (stored roster (LOCATIONS + cell.result) c.encode_vmid-w.result (omega arith) (omega arith) (omega arith))
     (column_set vmid_of LOCATIONS cells roster c.if-i-lt-CELLS.true (omega arith) c.encode_vmid-w.ensures.result_value))
 
 pub returns-else-i-lt-CELLS : goal.returns-else-i-lt-CELLS
 unfolding ranks_of
 returns-else-i-lt-CELLS c =
-    record { long = c.requires; same = rw (← c.cell-i.ensures, tabulate_set_past _ _ _ _ c.if-i-lt-CELLS.false) }
+    record { long = omega arith; same = rw (← c.cell-i.ensures, tabulate_set_past _ _ _ _ c.if-i-lt-CELLS.false) }

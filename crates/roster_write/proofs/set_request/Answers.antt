@@ -1,3 +1,4 @@
+use Rattle.std.proofs.Common.{arith}
 use Rattle.base.specs.Laws.Tabulate.{tabulate_set_past}
 use Rattle.roster.specs.Laws.Stores.{request_stored}
 use Rattle.roster.specs.Roster.{ranks_of}
@@ -6,8 +7,8 @@ use Rattle.roster_write.proofs.set_request.Goals as goal
 pub returns-then-i-lt-RANKS : goal.returns-then-i-lt-RANKS
 returns-then-i-lt-RANKS c =
     let call = c.encode_request-w in
-    request_stored c.args.roster.now c.args.r call.result c.requires c.if-i-lt-RANKS.true call.ensures
+    request_stored c.args.roster.now c.args.r call.result (omega arith) c.if-i-lt-RANKS.true call.ensures
 
 pub returns-else-i-lt-RANKS : goal.returns-else-i-lt-RANKS
 unfolding ranks_of
-returns-else-i-lt-RANKS c = record { long = c.requires; same = rw (tabulate_set_past _ _ _ _ c.if-i-lt-RANKS.false) }
+returns-else-i-lt-RANKS c = record { long = omega arith; same = rw (tabulate_set_past _ _ _ _ c.if-i-lt-RANKS.false) }
