@@ -45,30 +45,19 @@ pub fn pair_of(a: Rank, b: Rank) -> usize
     requires b_lt_ranks { b.0 < ranks }
     ensures { result ≡ pair_of a b }
 {
-    RANKS * (a.0 as usize) + (b.0 as usize)
-}
-
-// A stored number as an index or a count, whatever it is.
-pub fn wide(n: u16) -> usize
-    ensures { result ≡ n }
-{
-    n as usize
+    RANKS * usize::from(a.0) + usize::from(b.0)
 }
 
 // The place of a number.
 fn place_of(n: u16) -> Place
     ensures { result ≡ place_of n }
 {
-    if n == 0 {
-        return Place::SourceList;
+    match n {
+        0 => Place::SourceList,
+        1 => Place::SourceChannel,
+        2 => Place::EndList,
+        _ => Place::Channel,
     }
-    if n == 1 {
-        return Place::SourceChannel;
-    }
-    if n == 2 {
-        return Place::EndList;
-    }
-    Place::Channel
 }
 
 // The message of a slot of a pair.

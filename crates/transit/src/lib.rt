@@ -95,12 +95,7 @@ impl Place {
     pub fn number(self) -> u8
         ensures { result ≡ place_number self }
     {
-        match self {
-            Place::SourceList => 0,
-            Place::SourceChannel => 1,
-            Place::EndList => 2,
-            Place::Channel => 3,
-        }
+        self as u8
     }
 }
 
@@ -110,11 +105,11 @@ impl Message {
         ensures { result ≡ message sender receiver place value sequence }
     {
         Message {
-            sender: sender,
-            receiver: receiver,
-            place: place,
-            value: value,
-            sequence: sequence,
+            sender,
+            receiver,
+            place,
+            value,
+            sequence,
         }
     }
 }

@@ -1,12 +1,12 @@
 // Which slots a pass picks, for passes over all slots that branch on nothing.
-ghost use Rattle.std.specs.Prelude.{◌≡◌, cond};
-ghost use Rattle.transit.specs.Pick.{picked};
+ghost use Rattle.std.specs.Prelude.{◌≡◌};
+ghost use Rattle.transit.specs.Pick.{picked, pick_between, pick_to};
 
-use crate::Count;
-use crate::layout::ROW;
+use crate::layout::{DEAD, ROW};
+use crate::{Place, Rank};
 
 // The slots of a pair number from `low` up to `high` that are to `receiver`, at the place of a number.
-#[derive(Clone, Copy)]
+#[derive(Clone, Copy, PartialEq, Eq)]
 pub struct Pick {
     pub low: u16,
     pub high: u16,
@@ -14,23 +14,39 @@ pub struct Pick {
     pub place: u16,
 }
 
-// Whether a slot is picked.
-pub fn picked(w: Pick, pair: u16, place: u16) -> bool
-    ensures { result ≡ picked w pair place }
-{
-    (w.low <= pair) & (pair < w.high) & (pair % ROW == w.receiver) & (place == w.place)
-}
+impl Pick {
+    // The slots of the pair from `a` to `b` at a place.
+    pub fn between(a: Rank, b: Rank, place: Place) -> Self
+        ensures { result ≡ pick_between a b place }
+    {
+        let low = ROW * u16::from(a.0);
+        Pick {
+            low,
+            high: low + ROW,
+            receiver: u16::from(b.0),
+            place: u16::from(place.number()),
+        }
+    }
 
-// 1 where a slot is picked, and 0 elsewhere.
-pub fn one_if(hit: bool) -> Count
-    ensures { result ≡ cond hit 1 0 }
-{
-    if hit { 1 } else { 0 }
-}
+    // The slots of all pairs to `r` at a place.
+    pub fn to(r: Rank, place: Place) -> Self
+        ensures { result ≡ pick_to r place }
+    {
+        Pick {
+            low: 0,
+            high: DEAD,
+            receiver: u16::from(r.0),
+            place: u16::from(place.number()),
+        }
+    }
 
-// The one number where a slot is picked, and the other elsewhere.
-pub fn choose(hit: bool, yes: u16, other: u16) -> u16
-    ensures { result ≡ cond hit yes other }
-{
-    if hit { yes } else { other }
+    // Whether a slot of the pair at the place is picked.
+    pub fn picks(self, pair: u16, place: u16) -> bool
+        ensures { result ≡ picked self pair place }
+    {
+        (self.low <= pair)
+            & (pair < self.high)
+            & (pair % ROW == self.receiver)
+            & (place == self.place)
+    }
 }

@@ -9,7 +9,7 @@ ghost use Rattle.transit.specs.Search.{Oldest};
 ghost use Rattle.transit.specs.Unread.{first_sent};
 ghost use Rattle.transit.specs.declared.Selection.{Selection};
 
-use transit::layout::{FIRST, NONE, PLACES, SEQUENCES, SLOTS, message_of, pair_of, wide};
+use transit::layout::{FIRST, NONE, PLACES, SEQUENCES, SLOTS, message_of, pair_of};
 use transit::{Contents, Message, Place, RANKS, Rank, Slots};
 use transit_seek::seek;
 
@@ -24,15 +24,10 @@ pub fn first_at(
     requires { IsMail slots.now contents.now }
     ensures { result ≡ first_sent (Selection.BetweenAt a b place) (unread_in slots.now contents.now) }
 {
-    if Rank::LIMIT <= a.0 {
+    if a.0 >= Rank::LIMIT || b.0 >= Rank::LIMIT {
         return None;
     }
-    if Rank::LIMIT <= b.0 {
-        return None;
-    }
-    let pair = pair_of(a, b);
-    let number = place.number();
-    let at = seek(pair, number as u16, slots);
+    let at = seek(pair_of(a, b), u16::from(place.number()), slots);
     if at < SLOTS {
         let m = message_of(
             slots[at],
@@ -51,13 +46,8 @@ fn oldest(r: usize, slots: &Slots) -> u16
     ensures { Oldest (columns_of slots.now) r ranks result }
 {
     let mut best = NONE;
-    let mut s: usize = 0;
-    while s < RANKS {
-        let first = slots[FIRST + (RANKS * s + r)];
-        if first < best {
-            best = first;
-        }
-        s += 1;
+    for s in 0..RANKS {
+        best = best.min(slots[FIRST + (RANKS * s + r)]);
     }
     best
 }
@@ -67,10 +57,10 @@ pub fn first_to(r: Rank, slots: &Slots, contents: &Contents) -> Option<Message>
     requires { IsMail slots.now contents.now }
     ensures { result ≡ first_sent (Selection.To r) (unread_in slots.now contents.now) }
 {
-    if Rank::LIMIT <= r.0 {
+    if r.0 >= Rank::LIMIT {
         return None;
     }
-    let at = wide(oldest(r.0 as usize, slots));
+    let at = usize::from(oldest(usize::from(r.0), slots));
     if at < SLOTS {
         let m = message_of(
             slots[at],

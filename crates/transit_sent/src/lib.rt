@@ -14,7 +14,7 @@ use transit::{CELLS, Contents, RANKS, Rank, Sequence};
 pub fn sent_between(a: Rank, b: Rank, contents: &Contents) -> Sequence
     ensures { length contents.now ≡ contents_length → result ≡ sent_at a b (sent_in contents.now) }
 {
-    let pair = RANKS * (a.0 as usize) + (b.0 as usize);
+    let pair = RANKS * usize::from(a.0) + usize::from(b.0);
     if pair < CELLS {
         return contents[SENT + pair];
     }
@@ -37,14 +37,9 @@ pub fn count_one(a: Rank, b: Rank, contents: &mut Contents) -> Sequence
 
 // The counts as they are handed over stand in the contents.
 pub fn keep_counts(counts: [Sequence; CELLS], contents: &mut Contents)
-    requires { length contents.old ≡ contents_length }
     ensures { Kept counts contents.new }
 {
-    let mut p: usize = 0;
-    while p < CELLS {
-        contents[SENT + p] = counts[p];
-        p += 1;
-    }
+    contents[SENT..].copy_from_slice(&counts);
 }
 
 // The counts as they are handed over.
@@ -52,10 +47,6 @@ pub fn counts_in(contents: &Contents) -> [Sequence; CELLS]
     ensures { length contents.now ≡ contents_length → result ≡ sent_in contents.now }
 {
     let mut counts: [Sequence; CELLS] = [0; CELLS];
-    let mut p: usize = 0;
-    while p < CELLS {
-        counts[p] = contents[SENT + p];
-        p += 1;
-    }
+    counts.copy_from_slice(&contents[SENT..]);
     counts
 }

@@ -1,7 +1,8 @@
 -- The oldest message to a receiver stands in the least of the first slots of its sixteen pairs.
 -- Assumes nothing.
-use Rattle.std.specs.Prelude.{List, ◌≡◌, refl, ℕ, ◌+◌, ◌*◌, ◌/◌, ◌%◌, ◌<◌, ◌≤◌, get_or}
+use Rattle.std.specs.Prelude.{List, ◌≡◌, refl, ℕ, ◌+◌, ◌*◌, ◌/◌, ◌%◌, ◌<◌, ◌≤◌, min, get_or}
 use Rattle.std.proofs.Common.{arith, eq-eqb, ne_eqb}
+use Rattle.std.proofs.Math.Nat.{min-eq_left, min-eq_right}
 use Rattle.transit.specs.Columns.{Columns, columns_of, SLOTS}
 use Rattle.transit.specs.Mail.{IsMail}
 use Rattle.transit.specs.Message.{picks, ranks}
@@ -9,7 +10,7 @@ use Rattle.transit.specs.Search.{Oldest}
 use Rattle.transit.specs.declared.Rank.{Rank}
 use Rattle.transit.specs.declared.Selection.TheVariants.{To}
 use Rattle.transit.proofs.Laws.Earliest.{Earliest}
-use Rattle.base.specs.Laws.Tests.{by_equal}
+use Rattle.base.specs.Laws.Tests.{by_equal, by_less}
 
 module _ (c : Columns) (r : ℕ) where
   -- Of no pair there is none.
@@ -18,7 +19,7 @@ module _ (c : Columns) (r : ℕ) where
 
   module _ {senders at : ℕ} (o : Oldest c r senders at) where
     -- The next pair's first slot is before the others.
-    pub oldest_less : get_or c.first (ranks * senders + r) 0 < at → Oldest c r (senders + 1) (get_or c.first (ranks * senders + r) 0)
+    oldest_less : get_or c.first (ranks * senders + r) 0 < at → Oldest c r (senders + 1) (get_or c.first (ranks * senders + r) 0)
     oldest_less less = record {
       least = λ s h. by_equal s senders (λ e. rw e (omega arith)) (λ ne. omega (arith, o.least s (omega (arith, ne))));
       from = λ _. (senders, omega arith, refl);
@@ -26,12 +27,19 @@ module _ (c : Columns) (r : ℕ) where
     }
 
     -- It is not.
-    pub oldest_kept : at ≤ get_or c.first (ranks * senders + r) 0 → Oldest c r (senders + 1) at
+    oldest_kept : at ≤ get_or c.first (ranks * senders + r) 0 → Oldest c r (senders + 1) at
     oldest_kept kept = record {
       least = λ s h. by_equal s senders (λ e. rw e kept) (λ ne. o.least s (omega (arith, ne)));
       from = λ h. let f = o.from h in (f.0, omega (arith, f.1), f.2);
       within = o.within;
     }
+
+    -- The lesser of the two is the least.
+    pub oldest_next : Oldest c r (senders + 1) (min at (get_or c.first (ranks * senders + r) 0))
+    oldest_next =
+        let first = get_or c.first (ranks * senders + r) 0 in
+        by_less first at (λ less. let before : first ≤ at = omega (arith, less) in rw (min-eq_right before) (oldest_less less))
+        (λ kept. rw (min-eq_left kept) (oldest_kept kept))
 
 module _ {s v : List ℕ} (d : IsMail s v) (r : Rank) (small : r.0 < ranks) {at : ℕ} (o : Oldest (columns_of s) r.0 ranks at) where
   -- The least, where it is a slot, is of a pair to the receiver.

@@ -1,6 +1,7 @@
 -- Passes over all slots: one slot further, how many messages they count, and what they leave.
 -- Assumes nothing.
 use Rattle.std.specs.Prelude.{Bool, true, false, cond, List, ◌≡◌, leb, set}
+use Rattle.std.specs.Int.{from_bool}
 use Rattle.std.proofs.Math.Path.{refl}
 use Rattle.std.proofs.Common.{sym, ap, ◌∙◌, arith, le-ltb, length-set, get_or-set_same, get_or-set_other}
 use Prim.Native.Nat.{ℕ, zero, suc, ◌+◌, ◌<◌, ◌≤◌}
@@ -30,6 +31,11 @@ use Rattle.base.specs.Laws.Tests.{by_test, by_equal, by_less}
 pub one_at_most : (b : Bool) → cond b 1 0 ≤ 1
 one_at_most true = omega arith
 one_at_most false = omega arith
+
+-- A test as a number: 1 where it passes, and 0 elsewhere.
+pub one_if : (b : Bool) → from_bool b ≡ cond b 1 0
+one_if true = refl
+one_if false = refl
 
 -- No more slots are picked than were passed.
 pub hits_few : (w : Pick) (c : Columns) (i : ℕ) → hits w c i ≤ i

@@ -2,6 +2,7 @@
 -- Assumes nothing.
 use Rattle.std.specs.Prelude.{Bool, true, false, not, List, [], ◌≡◌, ℕ, ◌+◌, ◌<◌, ◌≤◌, ltb, length, get_or}
 use Rattle.std.proofs.Common.{sym, ◌∙◌, arith, ne_eqb, ltb-true}
+use Rattle.std.proofs.Math.Logic.{◌⊎◌, inl, inr}
 use Rattle.transit.specs.Columns.{columns_of, with_places, COUNT, UNREAD, SLOTS, slots_length}
 use Rattle.base.specs.Lists.{select, tally, every}
 use Rattle.transit.specs.Mail.{messages_in, IsMail}
@@ -64,6 +65,11 @@ between_past_sender a b m past h = rw (sender_past a m past h)
 pub between_past_receiver : (a b : Rank) (m : Message) → ranks ≤ b.0 → ranked m ≡ true → between a b m ≡ false
 between_past_receiver a b m past h =
     by_test (is_same_rank m.sender a) (λ e. rw (e, receiver_past b m past h)) (λ e. rw e)
+
+-- No message is of a pair of which a rank is past the sixteen.
+pub between_past : (a b : Rank) (m : Message) → (ranks ≤ a.0) ⊎ ((a.0 < ranks) × (ranks ≤ b.0)) → ranked m ≡ true → between a b m ≡ false
+between_past a b m (inl past) h = between_past_sender a b m past h
+between_past a b m (inr past) h = between_past_receiver a b m past.1 h
 
 -- Where the places alone change, to places, and as many messages are unread, the arrays hold what they must.
 pub mail_places : {s v s' l : List ℕ} → IsMail s v → length s' ≡ slots_length → columns_of s' ≡ with_places (columns_of s) l

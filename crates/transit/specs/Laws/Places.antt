@@ -4,12 +4,11 @@ use Rattle.std.specs.Prelude.{◌&&◌, ◌≡◌, ℕ, ◌+◌, ◌*◌, ◌/�
 use Rattle.std.proofs.Common.{arith, eq-eqb, ne_eqb, le-leb, lt-ltb, le-ltb}
 use Rattle.std.proofs.lemmas.Bool.{lt-leb}
 use Rattle.transit.specs.Message.{place_number, picks, ranks, cells, pair_of}
-use Rattle.transit.specs.Pick.{picked}
+use Rattle.transit.specs.Pick.{picked, pick_between, pick_to}
 use Rattle.transit.specs.Slots.{place_of, message_of}
 use Rattle.transit.specs.declared.Place.{Place}
 use Rattle.transit.specs.declared.Rank.{Rank}
 use Rattle.transit.specs.declared.Selection.TheVariants.{ToAt, BetweenAt}
-use Rattle.transit.specs.declared.pick.Pick.{Pick}
 use Rattle.transit.specs.Laws.Messages.{between_pair}
 use Rattle.base.specs.Laws.Tests.{by_equal, by_less}
 
@@ -18,14 +17,6 @@ number_back : (n : ℕ) → n < 4 → place_number (place_of n) ≡ n
 number_back n small =
     by_equal n 0 (λ e. rw e) (λ not_0. by_equal n 1 (λ e. rw e) (λ not_1. by_equal n 2 (λ e. rw e)
     (λ not_2. rw (ne_eqb n 0 not_0, ne_eqb n 1 not_1, ne_eqb n 2 not_2) (omega (arith, not_0, not_1, not_2)))))
-
--- the slots of the pair from a to b at a place
-abbrev pub pick_between : Rank → Rank → Place → Pick
-pick_between a b place = record { low = ranks * a.0; high = ranks * a.0 + ranks; receiver = b.0; place = place_number place }
-
--- the slots of all pairs to r at a place
-abbrev pub pick_to : Rank → Place → Pick
-pick_to r place = record { low = 0; high = cells; receiver = r.0; place = place_number place }
 
 module _ (p n : ℕ) (small : p < cells) (place_small : n < 4) where
   -- A message of a pair at a place is in a slot of those numbers.

@@ -1,10 +1,10 @@
 -- The counts sent behind the contents of the slots: a read and a store of them, and that the messages do not see them.
 -- Assumes nothing.
-use Rattle.std.specs.Prelude.{List, ◌≡◌, ℕ, ◌+◌, ◌<◌, ◌≤◌, length, get_or, set, take}
-use Rattle.std.proofs.Common.{sym, ap, ◌∙◌, add-one, arith, length-set, take-suc, take-suc-set, take_all, get_or-take}
+use Rattle.std.specs.Prelude.{List, [], ◌++◌, ◌≡◌, ℕ, ◌+◌, ◌<◌, length, get_or, set, take, drop}
+use Rattle.std.proofs.Common.{sym, ap, ◌∙◌, arith, length-append, length-set, take_all, get_or-take}
 use Rattle.std.proofs.Math.ListN.{length-drop}
 use Rattle.std.proofs.Math.Seq.{drop-set-lt, drop-set-add, get_or-drop}
-use Rattle.std.proofs.lemmas.List.{take-set-le}
+use Rattle.std.proofs.lemmas.List.{append-nil, drop_all, drop_at, length-take-le, take-set-le}
 use Rattle.transit.specs.Columns.{columns_of, sent_in, SENT, SEQUENCES, SLOTS, contents_length}
 use Rattle.transit.specs.Mail.{messages_in, IsMail, Roomy, Put, Appended}
 use Rattle.transit.specs.Message.{message, cells, pair_of}
@@ -53,32 +53,19 @@ module _ (v : List ℕ) where
         now = rw (sent_at_lem p);
       }
 
--- One number more is copied.
-pub copy_next : (l m : List ℕ) (p : ℕ) → p < length l → p < length m → take p l ≡ take p m
-    → take (p + 1) (set l p (get_or m p 0)) ≡ take (p + 1) m
-copy_next l m p in_l in_m same = rw (add-one, take-suc-set l p (get_or m p 0) in_l, take-suc m p 0 in_m, same)
+-- Counts written behind the messages are the counts.
+pub kept_counts : (v l : List ℕ) → length v ≡ contents_length → length l ≡ cells → Kept l (take SENT v ++ (l ++ drop cells (drop SENT v)))
+unfolding sent_in
+kept_counts v l long size =
+    let before : length (take SENT v) ≡ SENT = length-take-le SENT v (omega (arith, long)) in
+    let behind : drop cells (drop SENT v) ≡ [] = drop_all cells (drop SENT v) (omega (arith, length-drop SENT v, long)) in
+    rw (behind, append-nil l)
+    record { long = omega (arith, length-append (take SENT v) l, before, size); same = drop_at (take SENT v) l SENT before }
 
--- The counts before p stand in the contents.
-pub record Keeping (counts contents : List ℕ) (p : ℕ) : Type 0 where
-  pub long : length contents ≡ contents_length
-  pub same : take p (sent_in contents) ≡ take p counts
-
--- One count more does.
-pub keep_next : {counts v : List ℕ} {p : ℕ} → Keeping counts v p → length counts ≡ cells → p < cells
-    → Keeping counts (set v (SENT + p) (get_or counts p 0)) (p + 1)
-keep_next {counts} {v} {p} k size h = record {
-  long = length-set v (SENT + p) (get_or counts p 0) ∙ k.long;
-  same =
-      rw (sent_set v p (get_or counts p 0))
-      (copy_next (sent_in v) counts p (omega (arith, sent_long v k.long)) (omega arith) k.same);
-}
-
--- All counts do.
-pub keep_all : {counts v : List ℕ} {p : ℕ} → Keeping counts v p → length counts ≡ cells → cells ≤ p → Kept counts v
-keep_all {counts} {v} {p} k size past = record {
-  long = k.long;
-  same = sym (take_all p (sent_in v) (omega (arith, sent_long v k.long))) ∙ k.same ∙ take_all p counts (omega arith);
-}
+-- The counts are all that is behind the messages.
+pub counts_read : (v : List ℕ) → length v ≡ contents_length → take cells (drop SENT v) ≡ sent_in v
+unfolding sent_in
+counts_read v long = take_all cells (drop SENT v) (omega (arith, length-drop SENT v, long))
 
 -- The messages are the same where the contents before the counts are.
 pub messages_before : (s v v' : List ℕ) → length (columns_of s).pairs ≡ SLOTS → take SENT v' ≡ take SENT v

@@ -1,11 +1,8 @@
 -- The loop's invariant: `n` of the slots before `i` are picked. Assumes nothing.
-use Rattle.std.proofs.Common.{◌-◌, ◌≡◌, ◌≤◌}
-use Rattle.transit.specs.Columns.{columns_of, SLOTS}
+use Rattle.std.proofs.Common.{◌≡◌}
+use Rattle.transit.specs.Columns.{columns_of}
 use Rattle.transit.specs.Pick.{hits}
 use Rattle.transit_count.proofs.count_hits.Given as goal
 
 abbrev pub invariant-loop-i : goal.invariant-loop-i
-invariant-loop-i l = record { in_range : l.i ≤ SLOTS; counted : l.n ≡ hits l.w (columns_of l.slots) l.i }
-
-abbrev pub decreases-loop-i : goal.decreases-loop-i
-decreases-loop-i l = SLOTS - l.i
+invariant-loop-i l = l.n ≡ hits l.w (columns_of l.slots) l.i

@@ -3,7 +3,7 @@ use Rattle.transit.specs.Message.{picks}
 use Rattle.transit.specs.Unread.{head}
 use Rattle.transit.specs.declared.Selection.TheVariants.{BetweenAt}
 use Rattle.transit.proofs.Laws.Earliest.{Earliest, earliest_nothing, earliest_live, earliest_found}
-use Rattle.transit.specs.Laws.Mail.{none_in, between_past_sender, between_past_receiver}
+use Rattle.transit.specs.Laws.Mail.{none_in, between_past}
 use Rattle.transit.proofs.Laws.Search.{reached_earliest}
 use Rattle.transit_find.proofs.first_at.Goals as goal
 use Rattle.transit_find.proofs.first_at.Goals.{After-seek-at}
@@ -15,17 +15,12 @@ is_earliest : (c : After-seek-at) →
 is_earliest c =
     let a = c.args in
     reached_earliest c.requires a.a a.b c.if-a-ge-LIMIT.false c.if-b-ge-LIMIT.false a.place
-    (rw (c.pair_of-pair.ensures, c.number-number.ensures) at (c.seek-at.ensures c.requires.index))
+    (rw (c.pair_of.ensures, c.from.ensures, c.number.ensures) at (c.seek-at.ensures c.requires.index))
 
 pub returns-then-a-ge-LIMIT : goal.returns-then-a-ge-LIMIT
 returns-then-a-ge-LIMIT c =
     let a = c.args in
-    sym (ap head (none_in a.slots.now a.contents.now _ (λ m h. rw (between_past_sender a.a a.b m c.if-a-ge-LIMIT.true h))))
-
-pub returns-then-b-ge-LIMIT : goal.returns-then-b-ge-LIMIT
-returns-then-b-ge-LIMIT c =
-    let a = c.args in
-    sym (ap head (none_in a.slots.now a.contents.now _ (λ m h. rw (between_past_receiver a.a a.b m c.if-b-ge-LIMIT.true h))))
+    sym (ap head (none_in a.slots.now a.contents.now _ (λ m h. rw (between_past a.a a.b m c.then-a-ge-LIMIT.either h))))
 
 pub message_of-m-requires : goal.message_of-m-requires
 message_of-m-requires c = earliest_live c.requires (is_earliest (goal.at.message_of-m-requires c).After-seek-at) (omega arith)

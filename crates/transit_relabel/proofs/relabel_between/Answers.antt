@@ -1,7 +1,8 @@
 use Rattle.std.proofs.Common.{arith}
+use Rattle.transit.specs.Pick.{pick_between}
 use Rattle.transit.specs.declared.Selection.TheVariants.{BetweenAt}
 use Rattle.transit.proofs.Laws.Passes.{pass_end}
-use Rattle.transit.specs.Laws.Places.{pick_between, picked_between}
+use Rattle.transit.specs.Laws.Places.{picked_between}
 use Rattle.transit_relabel.proofs.relabel_between.Goals as goal
 
 pub returns : goal.returns
@@ -11,4 +12,4 @@ returns c =
     pass_end d (BetweenAt a.a a.b a.from) (pick_between a.a a.b a.from) (omega arith)
     (λ p n _ _ live placed. picked_between p n live placed a.a a.b a.from c.requires.a_lt_ranks c.requires.b_lt_ranks)
     a.to
-    (rw (c.number-number.ensures, c.number-target.ensures) at (c.pass.ensures d.slots_long))
+    (rw (c.between.ensures, c.from.ensures, c.number.ensures) at c.pass.ensures)

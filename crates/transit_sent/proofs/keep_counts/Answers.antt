@@ -1,13 +1,12 @@
-use Rattle.std.proofs.Common.{arith, rules, ◌≡◌, length}
-use Rattle.transit.specs.Laws.Sent.{keep_next, keep_all}
+use Rattle.std.proofs.Common.{rules, ◌≡◌, length}
+use Rattle.transit.specs.Columns.{contents_length}
+use Rattle.transit.specs.Laws.Sent.{kept_counts}
 use Rattle.transit.specs.Message.{cells}
 use Rattle.transit_sent.proofs.keep_counts.Goals as goal
 
-pub loop-p-preserved : goal.loop-p-preserved
-loop-p-preserved c =
-    let size : length c.args.counts ≡ cells = search rules in
-    record { within = omega arith; keeping = keep_next c.loop-p.invariant.keeping size (omega arith) }
-
 pub returns : goal.returns
 returns c =
-    let size : length c.args.counts ≡ cells = search rules in keep_all c.loop-p.invariant.keeping size (omega arith)
+    let v = c.args.contents.now in
+    let long : length v ≡ contents_length = search rules in
+    let size : length c.args.counts ≡ cells = search rules in
+    rw c.copy_from_slice.ensures.after (kept_counts v c.args.counts long size)
