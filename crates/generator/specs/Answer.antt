@@ -1,9 +1,10 @@
 -- What a maker of a log answers, and what it leaves in the buffer. Paper 02, change 1: "The answer is the bytes written; the buffer beyond
 -- them is untouched. Checks: 26 for seed zero, then 27 for a buffer shorter than 7 times n bytes; neither writes a byte." Assumes nothing.
-use Rattle.std.specs.Prelude.{cond, List, [], ◌++◌, ℕ, ◌*◌, eqb, ltb, length, drop}
+use Rattle.std.specs.Prelude.{cond, List, ◌++◌, ℕ, ◌*◌, eqb, ltb, length, drop, Result, Ok, Err}
 use Rattle.generator_record.specs.MadeUp.{longest, made_log, log_leaves}
-use Rattle.generator.specs.declared.Made.{Made}
-use Rattle.generator.specs.declared.Made.TheVariants.{Written, SeedZero, TooShort}
+use Rattle.generator.specs.declared.Unmade.{Unmade}
+use Rattle.generator.specs.declared.Unmade.TheVariants.{SeedZero, TooShort}
+use Rattle.generator.specs.declared.Word.{Word}
 
 -- all that there is afterwards: the number, the bytes written, the word that they leave, and the buffer
 pub record Outcome : Type 0 where
@@ -16,15 +17,19 @@ pub record Outcome : Type 0 where
 abbrev pub refuses : ℕ → List ℕ → Outcome
 refuses number buffer = record { number = number; bytes = 0; word = 0; buffer = buffer }
 
+-- the paper's number of each refusal
+abbrev pub number : Unmade → ℕ
+number SeedZero = 26
+number TooShort = 27
+
+-- the bytes written and the word that they leave, or a refusal
+abbrev pub Made : Type 0
+Made = Result (ℕ × Word) Unmade
+
 -- the paper's number and values of each answer, 0 where a log was written, beside the buffer
 abbrev pub outcome : Made → List ℕ → Outcome
-outcome (Written bytes word) buffer = record { number = 0; bytes = bytes; word = word.0; buffer = buffer }
-outcome SeedZero buffer = refuses 26 buffer
-outcome TooShort buffer = refuses 27 buffer
-
--- the number alone
-abbrev pub number : Made → ℕ
-number made = (outcome made []).number
+outcome (Ok made) buffer = record { number = 0; bytes = made.0; word = made.1.0; buffer = buffer }
+outcome (Err why) buffer = refuses (number why) buffer
 
 -- "The answer is the bytes written; the buffer beyond them is untouched."
 abbrev pub writes : List ℕ → ℕ → List ℕ → Outcome

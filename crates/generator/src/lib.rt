@@ -9,32 +9,28 @@ ghost use Rattle.generator_record.specs.MadeUp.{longest, made_log, log_leaves};
 use generator_record::{Progress, put_record};
 
 // The word at which the generator stands. A seed is the first one.
-#[derive(Clone, Copy)]
+#[derive(Clone, Copy, PartialEq, Eq)]
 pub struct Word(pub u32);
 
-// What a maker of a log answers.
-#[derive(Clone, Copy)]
-pub enum Made {
-    // The bytes written, and the word that they leave.
-    Written(usize, Word),
-    // 26: the seed, or the word to go on from, is zero.
-    SeedZero,
-    // 27: the buffer is shorter than 7 times the count of records.
-    TooShort,
+// Why a maker of a log makes none. Each has the paper's number.
+#[derive(Clone, Copy, PartialEq, Eq)]
+pub enum Unmade {
+    // The seed, or the word to go on from, is zero.
+    SeedZero = 26,
+    // The buffer is shorter than 7 times the count of records.
+    TooShort = 27,
 }
 
-impl Made {
-    // 0 where a log was written, else the refusal's number.
+impl Unmade {
     pub fn number(self) -> u8
         ensures { result ≡ number self }
     {
-        match self {
-            Made::Written(_, _) => 0,
-            Made::SeedZero => 26,
-            Made::TooShort => 27,
-        }
+        self as u8
     }
 }
+
+// What a maker of a log answers: the bytes written, and the word that they leave.
+pub type Made = Result<(usize, Word), Unmade>;
 
 // The most bytes that a record takes.
 const LONGEST: usize = 7;
@@ -45,37 +41,26 @@ fn put_records(buffer: &mut [u8], n: usize, word: u32) -> Progress
     ensures put { Put (longest * n) buffer.old 0 (made_log n word) buffer.new result.used }
     ensures left { result.word ≡ log_leaves n word }
 {
-    let mut used: usize = 0;
-    let mut at = word;
-    let mut made: usize = 0;
-    while made < n {
-        let progress = put_record(buffer, used, at);
-        used = progress.used;
-        at = progress.word;
-        made += 1;
+    let mut so_far = Progress { used: 0, word };
+    for _ in 0..n {
+        so_far = put_record(buffer, so_far);
     }
-    Progress {
-        used: used,
-        word: at,
-    }
+    so_far
 }
 
 // The log goes on from a word that an earlier part of it left.
 pub fn go_on(word: Word, n: usize, buffer: &mut [u8]) -> Made
     ensures { outcome result buffer.new ≡ makes word.0 n buffer.old }
 {
-    let at = word.0;
-    if at == 0 {
-        return Made::SeedZero;
+    if word.0 == 0 {
+        return Err(Unmade::SeedZero);
     }
     // 7 times n is the number of mathematics: a product of machine numbers could wrap round.
     if buffer.len() / LONGEST < n {
-        return Made::TooShort;
+        return Err(Unmade::TooShort);
     }
-    let progress = put_records(buffer, n, at);
-    let used = progress.used;
-    let left = progress.word;
-    Made::Written(used, Word(left))
+    let Progress { used, word: left } = put_records(buffer, n, word.0);
+    Ok((used, Word(left)))
 }
 
 // A log of n records from a seed, at the front of a lent buffer.

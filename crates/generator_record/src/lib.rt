@@ -3,8 +3,7 @@
 
 ghost use Rattle.std.specs.Prelude.{◌≡◌, ◌+◌, ◌<◌, ◌≤◌, length};
 ghost use Rattle.print_page.specs.Put.{Put};
-ghost use Rattle.record.specs.Record.{fields_of};
-ghost use Rattle.record.specs.Record.{bytes_of};
+ghost use Rattle.record.specs.Record.{fields_of, bytes_of};
 ghost use Rattle.generator_record.specs.Body.{fields_in, has_second, second_below, has_value};
 ghost use Rattle.generator_record.specs.MadeUp.{kinds, longest, body, body_leaves, made_record, record_leaves};
 
@@ -36,6 +35,30 @@ pub enum Body {
     RanksAndValue,
 }
 
+impl Body {
+    fn has_second(self) -> bool
+        ensures { result ≡ has_second self }
+    {
+        !matches!(self, Body::Rank)
+    }
+
+    // What the second byte of a body is below: it is a host or a rank.
+    fn second_below(self) -> u32
+        ensures { result ≡ second_below self }
+    {
+        match self {
+            Body::RankAndHost => HOSTS,
+            Body::Rank | Body::Ranks | Body::RanksAndValue => RANKS,
+        }
+    }
+
+    fn has_value(self) -> bool
+        ensures { result ≡ has_value self }
+    {
+        matches!(self, Body::RanksAndValue)
+    }
+}
+
 // The bodies of the kinds 01 to 0C.
 const BODIES: [Body; 12] = [
     Body::RankAndHost,
@@ -52,7 +75,7 @@ const BODIES: [Body; 12] = [
     Body::Rank,
 ];
 
-// The body of the kind that is 1 plus a number. It is looked up, not branched on: a kind that is drawn can't be foreseen.
+// The body of the kind that is 1 plus a number. Paper 01 names the form, a table: a `match` would branch on a kind that can't be foreseen.
 fn body_of(number: u32) -> Body
     requires { number < kinds }
     ensures { fields_in result ≡ fields_of (1 + number) }
@@ -65,64 +88,27 @@ fn put_value(buffer: &mut [u8], used: usize, value: u32) -> usize
     requires { used + 4 ≤ length buffer.old }
     ensures { Put 4 buffer.old used (bytes_of value) buffer.new result }
 {
-    let b0 = (value % 256) as u8;
-    let b1 = (value / 256 % 256) as u8;
-    let b2 = (value / 65536 % 256) as u8;
-    let b3 = (value / 16777216 % 256) as u8;
+    let [b0, b1, b2, b3] = value.to_le_bytes();
     put_four_bytes(buffer, used, b0, b1, b2, b3)
 }
 
-fn has_second(fields: Body) -> bool
-    ensures { result ≡ has_second fields }
-{
-    match fields {
-        Body::Rank => false,
-        Body::RankAndHost => true,
-        Body::Ranks => true,
-        Body::RanksAndValue => true,
-    }
-}
-
-// What the second byte of a body is below: it is a host or a rank.
-fn second_below(fields: Body) -> u32
-    ensures { result ≡ second_below fields }
-{
-    match fields {
-        Body::Rank => RANKS,
-        Body::RankAndHost => HOSTS,
-        Body::Ranks => RANKS,
-        Body::RanksAndValue => RANKS,
-    }
-}
-
-fn has_value(fields: Body) -> bool
-    ensures { result ≡ has_value fields }
-{
-    match fields {
-        Body::Rank => false,
-        Body::RankAndHost => false,
-        Body::Ranks => false,
-        Body::RanksAndValue => true,
-    }
-}
-
 // A body, each field from a draw of its own. Every body begins with a rank.
-fn put_body(buffer: &mut [u8], used: usize, fields: Body, word: u32) -> Progress
-    requires { used + 6 ≤ length buffer.old }
-    ensures put { Put 6 buffer.old used (body (fields_in fields) word) buffer.new result.used }
-    ensures left { result.word ≡ body_leaves (fields_in fields) word }
+fn put_body(buffer: &mut [u8], before: Progress, fields: Body) -> Progress
+    requires { before.used + 6 ≤ length buffer.old }
+    ensures put { Put 6 buffer.old before.used (body (fields_in fields) before.word) buffer.new result.used }
+    ensures left { result.word ≡ body_leaves (fields_in fields) before.word }
 {
-    let first = draw(word);
-    let one = put_byte(buffer, used, (first % RANKS) as u8);
-    if !has_second(fields) {
+    let first = draw(before.word);
+    let one = put_byte(buffer, before.used, (first % RANKS) as u8);
+    if !fields.has_second() {
         return Progress {
             used: one,
             word: first,
         };
     }
     let second = draw(first);
-    let two = put_byte(buffer, one, (second % second_below(fields)) as u8);
-    if !has_value(fields) {
+    let two = put_byte(buffer, one, (second % fields.second_below()) as u8);
+    if !fields.has_value() {
         return Progress {
             used: two,
             word: second,
@@ -136,13 +122,13 @@ fn put_body(buffer: &mut [u8], used: usize, fields: Body, word: u32) -> Progress
 }
 
 // A record: its kind, and the body of that kind.
-pub fn put_record(buffer: &mut [u8], used: usize, word: u32) -> Progress
-    requires { used + longest ≤ length buffer.old }
-    ensures put { Put longest buffer.old used (made_record word) buffer.new result.used }
-    ensures left { result.word ≡ record_leaves word }
+pub fn put_record(buffer: &mut [u8], before: Progress) -> Progress
+    requires { before.used + longest ≤ length buffer.old }
+    ensures put { Put longest buffer.old before.used (made_record before.word) buffer.new result.used }
+    ensures left { result.word ≡ record_leaves before.word }
 {
-    let first = draw(word);
-    let number = first % KINDS;
-    let at = put_byte(buffer, used, (1 + number) as u8);
-    put_body(buffer, at, body_of(number), first)
+    let word = draw(before.word);
+    let number = word % KINDS;
+    let used = put_byte(buffer, before.used, (1 + number) as u8);
+    put_body(buffer, Progress { used, word }, body_of(number))
 }

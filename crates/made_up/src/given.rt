@@ -1,5 +1,5 @@
-// What the program was given: its arguments, as the numbers and bytes that the plan is made by.
-ghost use Rattle.std.specs.Prelude.{◌≤◌, length};
+// What the program was given: its arguments, as the count and the bytes that the plan is made by.
+ghost use Rattle.std.specs.Prelude.{◌≤◌, IfSome, length};
 
 use std::env::FillError;
 use std::rt::Env;
@@ -10,24 +10,13 @@ pub const ARGUMENT_LENGTH: usize = 4096;
 // How long the buffer is that a piece of a pass is made in.
 pub const BUFFER_LENGTH: usize = 65536;
 
-// What the call that gives an argument said, and how many bytes of it stand at the front of a buffer.
-#[derive(Clone, Copy)]
-pub struct Given {
-    // 0 where it gave all of the argument.
-    pub error: i32,
-    pub long: usize,
-}
-
-// Puts an argument at the front of a buffer.
-pub fn take_argument(rt: &impl Env, at: usize, buffer: &mut [u8]) -> Given
-    ensures { result.long ≤ length buffer.new }
+// An argument, put at the front of a buffer; nothing where the buffer has no room for it, or there is none.
+pub fn take_argument<'a>(rt: &impl Env, at: usize, buffer: &'a mut [u8]) -> Option<&'a [u8]>
+    ensures { IfSome result (λ text. length text.now ≤ length buffer.old) }
 {
     match rt.arg(at, buffer) {
-        Ok(long) => Given {
-            error: 0,
-            long: long,
-        },
-        Err(_) => Given { error: 1, long: 0 },
+        Ok(long) => Some(&buffer[..long]),
+        Err(_) => None,
     }
 }
 

@@ -9,9 +9,10 @@ ghost use Rattle.made_up_pass.specs.Piece.{piece_room};
 mod given;
 
 use given::{ARGUMENT_LENGTH, BUFFER_LENGTH, argument_count, take_argument};
-use made_up_pass::{Ending, Next, next_of, next_piece, no_piece, put_ending};
-use made_up_plan::{COUNT_AT, Plan, SEED_AT, plan_of};
+use made_up_pass::{Ending, next_of, next_piece, no_piece, put_ending};
+use made_up_plan::{COUNT_AT, SEED_AT, plan_of};
 use made_up_problem::put_problem;
+use std::ops::ControlFlow;
 
 // Writes the log of so many records from a seed to standard output.
 fn write_pass(rt: &impl Print, seed: u32, count: u64, buffer: &mut [u8]) -> Ending
@@ -20,13 +21,11 @@ fn write_pass(rt: &impl Print, seed: u32, count: u64, buffer: &mut [u8]) -> Endi
 {
     let mut piece = no_piece(seed, count);
     loop {
-        piece = next_piece(piece, buffer);
-        let bytes = piece.bytes;
-        let written = rt.write_all(&buffer[..bytes]).is_ok();
-        let next = next_of(piece, written);
-        match next {
-            Next::Again => {}
-            Next::End(ending) => {
+        piece = next_piece(piece, buffer)?;
+        let written = rt.write_all(&buffer[..piece.bytes]).is_ok();
+        match next_of(piece, written) {
+            ControlFlow::Continue(()) => {}
+            ControlFlow::Break(ending) => {
                 return ending;
             }
         }
@@ -35,28 +34,19 @@ fn write_pass(rt: &impl Print, seed: u32, count: u64, buffer: &mut [u8]) -> Endi
 
 fn main(rt: HostRuntime) {
     let mut seed = [0u8; ARGUMENT_LENGTH];
-    let seed_given = take_argument(&rt, SEED_AT, &mut seed);
-    let seed_long = seed_given.long;
     let mut count = [0u8; ARGUMENT_LENGTH];
-    let count_given = take_argument(&rt, COUNT_AT, &mut count);
-    let count_long = count_given.long;
     let plan = plan_of(
         argument_count(&rt),
-        seed_given.error,
-        &seed[..seed_long],
-        count_given.error,
-        &count[..count_long],
+        take_argument(&rt, SEED_AT, &mut seed),
+        take_argument(&rt, COUNT_AT, &mut count),
     );
     let mut buffer = [0u8; BUFFER_LENGTH];
-    match plan {
-        Plan::Pass(word, records) => {
-            let ending = write_pass(&rt, word, records, &mut buffer);
-            let said = put_ending(&mut buffer, ending);
-            let _ = rt.stderr().write_all(&buffer[..said]);
+    let said = match plan {
+        Ok(pass) => {
+            let ending = write_pass(&rt, pass.seed, pass.count, &mut buffer);
+            put_ending(&mut buffer, ending)
         }
-        Plan::Tell(problem) => {
-            let said = put_problem(&mut buffer, problem);
-            let _ = rt.stderr().write_all(&buffer[..said]);
-        }
-    }
+        Err(problem) => put_problem(&mut buffer, problem),
+    };
+    let _ = rt.stderr().write_all(&buffer[..said]);
 }

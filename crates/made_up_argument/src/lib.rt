@@ -2,18 +2,12 @@
 #![tactic(auto)]
 
 ghost use Rattle.std.specs.Prelude.{true, ◌≡◌, ◌-◌, ◌≤◌};
+ghost use Rattle.std.specs.Option.{option_map};
 ghost use Rattle.base.specs.Lists.{every};
 ghost use Rattle.made_up_argument.specs.Argument.{is_digit, number_in, argument_of};
 
-// What an argument says.
-#[derive(Clone, Copy)]
-pub enum Argument {
-    Number(u64),
-    Wrong(Fault),
-}
-
 // What is wrong with an argument.
-#[derive(Clone, Copy)]
+#[derive(Clone, Copy, PartialEq, Eq)]
 pub enum Fault {
     // It has another byte than a digit, or none at all.
     NoNumber,
@@ -23,21 +17,13 @@ pub enum Fault {
     TooLong,
 }
 
-fn is_digit(byte: u8) -> bool
-    ensures { result ≡ is_digit byte }
-{
-    b'0' <= byte && byte <= b'9'
-}
-
 fn all_digits(text: &[u8]) -> bool
     ensures { result ≡ every is_digit text.now }
 {
-    let mut i: usize = 0;
-    while i < text.len() {
-        if !is_digit(text[i]) {
+    for byte in text {
+        if !byte.is_ascii_digit() {
             return false;
         }
-        i += 1;
     }
     true
 }
@@ -50,37 +36,38 @@ fn digit_of(byte: u8) -> u64
 }
 
 // The number in a text, where it is at most so much.
-pub fn number_in(text: &[u8], most: u64) -> Argument
+pub fn number_in(text: &[u8], most: u64) -> Result<u64, Fault>
     ensures { result ≡ number_in most text.now }
 {
-    if text.len() == 0 {
-        return Argument::Wrong(Fault::NoNumber);
+    if text.is_empty() {
+        return Err(Fault::NoNumber);
     }
     if !all_digits(text) {
-        return Argument::Wrong(Fault::NoNumber);
+        return Err(Fault::NoNumber);
     }
     let mut n: u64 = 0;
-    let mut i: usize = 0;
-    while i < text.len() {
-        let digit = digit_of(text[i]);
-        if (u64::MAX - digit) / 10 < n {
-            return Argument::Wrong(Fault::TooLarge);
-        }
-        n = 10 * n + digit;
-        i += 1;
+    for byte in text {
+        let digit = digit_of(*byte);
+        let Some(tens) = n.checked_mul(10) else {
+            return Err(Fault::TooLarge);
+        };
+        let Some(more) = tens.checked_add(digit) else {
+            return Err(Fault::TooLarge);
+        };
+        n = more;
     }
     if most < n {
-        return Argument::Wrong(Fault::TooLarge);
+        return Err(Fault::TooLarge);
     }
-    Argument::Number(n)
+    Ok(n)
 }
 
-// What an argument says, by what the call that gives arguments said, 0 where it gave all of it, and by what it gave.
-pub fn argument_of(error: i32, text: &[u8], most: u64) -> Argument
-    ensures { result ≡ argument_of error most text.now }
+// What an argument says, by what the call that gives arguments gave of it: its text, or nothing where it is too long.
+pub fn argument_of(given: Option<&[u8]>, most: u64) -> Result<u64, Fault>
+    ensures { result ≡ argument_of (option_map (λ text. text.now) given.entry) most }
 {
-    if error != 0 {
-        return Argument::Wrong(Fault::TooLong);
+    match given {
+        Some(text) => number_in(text, most),
+        None => Err(Fault::TooLong),
     }
-    number_in(text, most)
 }

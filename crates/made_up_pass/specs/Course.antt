@@ -1,5 +1,5 @@
 -- What the program has written, piece by piece. Assumes nothing.
-use Rattle.std.specs.Prelude.{◌≡◌, List, [], ◌++◌, ℕ, take}
+use Rattle.std.specs.Prelude.{List, [], ◌++◌, ℕ, take, Ok}
 use Rattle.made_up_pass.specs.Piece.{Pieced}
 use Rattle.made_up_pass.specs.declared.Piece.{Piece}
 
@@ -7,8 +7,8 @@ use Rattle.made_up_pass.specs.declared.Piece.{Piece}
 -- bytes that were written.
 pub data Course (seed count : ℕ) : ℕ → ℕ → List ℕ → Type 0 where
   begun : Course seed count seed count []
-  further : {word left : ℕ} {written buffer after : List ℕ} {p : Piece} → Pieced word left buffer p after → p.number ≡ 0
-      → Course seed count word left written → Course seed count p.word p.left (written ++ take p.bytes after)
+  further : {word left : ℕ} {written buffer after : List ℕ} {p : Piece} → Pieced word left buffer (Ok p) after
+      → Course seed count word left written → Course seed count p.word.0 p.left (written ++ take p.bytes after)
 
 -- the program stands so in the course of its pass
 pub record Stands (seed count word left : ℕ) : Type 0 where

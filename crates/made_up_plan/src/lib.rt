@@ -2,11 +2,12 @@
 #![tactic(auto)]
 
 ghost use Rattle.std.specs.Prelude.{◌≡◌};
-ghost use Rattle.made_up_argument.specs.Argument.{argument_of, Within};
-ghost use Rattle.made_up_plan.specs.Plan.{most, pass_of, plan_of};
+ghost use Rattle.std.specs.Option.{option_map};
+ghost use Rattle.made_up_argument.specs.Argument.{argument_of};
+ghost use Rattle.made_up_plan.specs.Plan.{most, plan_of};
 ghost use Rattle.made_up_plan.specs.declared.Which.TheVariants.{Seed, Count};
 
-use made_up_argument::{Argument, Fault, argument_of};
+use made_up_argument::{Fault, argument_of};
 
 // Where the arguments stand, the program's own name being at 0.
 pub const SEED_AT: usize = 1;
@@ -14,14 +15,14 @@ pub const SEED_AT: usize = 1;
 pub const COUNT_AT: usize = 2;
 
 // One of the two arguments.
-#[derive(Clone, Copy)]
+#[derive(Clone, Copy, PartialEq, Eq)]
 pub enum Which {
     Seed,
     Count,
 }
 
 // What is wrong with the arguments.
-#[derive(Clone, Copy)]
+#[derive(Clone, Copy, PartialEq, Eq)]
 pub enum Problem {
     // There are more than two.
     TooMany,
@@ -29,13 +30,11 @@ pub enum Problem {
     Faulty(Which, Fault),
 }
 
-// What the program does.
-#[derive(Clone, Copy)]
-pub enum Plan {
-    // It writes the pass of a seed and a count of records.
-    Pass(u32, u64),
-    // It says what is wrong.
-    Tell(Problem),
+// The pass that is written: so many records from a seed.
+#[derive(Clone, Copy, PartialEq, Eq)]
+pub struct Pass {
+    pub seed: u32,
+    pub count: u64,
 }
 
 // The most that an argument may be: a seed is a word of 32 bits.
@@ -43,41 +42,36 @@ fn most(which: Which) -> u64
     ensures { result ≡ most which }
 {
     match which {
-        Which::Seed => 4294967295,
+        Which::Seed => u32::MAX as u64,
         Which::Count => u64::MAX,
     }
 }
 
-// What is done by two arguments: the seed comes before the count.
-fn pass_of(seed: Argument, count: Argument) -> Plan
-    requires { Within (most Seed) seed }
-    ensures { result ≡ pass_of seed count }
-{
-    match seed {
-        Argument::Number(word) => match count {
-            Argument::Number(records) => Plan::Pass(word as u32, records),
-            Argument::Wrong(fault) => Plan::Tell(Problem::Faulty(Which::Count, fault)),
-        },
-        Argument::Wrong(fault) => Plan::Tell(Problem::Faulty(Which::Seed, fault)),
-    }
-}
-
-// What is done by what the program was given: how many words, its own name among them, and of the first argument and the second what the
-// call that gives them said, 0 where it gave all of it, and what it gave. How many there are comes before what they are.
-pub fn plan_of(given: usize, first: i32, seed: &[u8], second: i32, count: &[u8]) -> Plan
-    ensures { result ≡ plan_of given (argument_of first (most Seed) seed.now)
-        (argument_of second (most Count) count.now) }
+// What is done by what the program was given: how many words, its own name among them, and the first argument and the second, or nothing of
+// one that was not given whole. How many there are comes before what they are, and the seed before the count.
+pub fn plan_of(
+    given: usize,
+    seed: Option<&[u8]>,
+    count: Option<&[u8]>,
+) -> Result<Pass, Problem>
+    ensures { result ≡ plan_of given (argument_of (option_map (λ text. text.now) seed.entry) (most Seed))
+        (argument_of (option_map (λ text. text.now) count.entry) (most Count)) }
 {
     if COUNT_AT + 1 < given {
-        return Plan::Tell(Problem::TooMany);
+        return Err(Problem::TooMany);
     }
     if given <= SEED_AT {
-        return Plan::Tell(Problem::Missing(Which::Seed));
+        return Err(Problem::Missing(Which::Seed));
     }
     if given <= COUNT_AT {
-        return Plan::Tell(Problem::Missing(Which::Count));
+        return Err(Problem::Missing(Which::Count));
     }
-    let word = argument_of(first, seed, most(Which::Seed));
-    let records = argument_of(second, count, most(Which::Count));
-    pass_of(word, records)
+    let word = argument_of(seed, most(Which::Seed))
+        .map_err(|fault| Problem::Faulty(Which::Seed, fault))?;
+    let records = argument_of(count, most(Which::Count))
+        .map_err(|fault| Problem::Faulty(Which::Count, fault))?;
+    Ok(Pass {
+        seed: word as u32,
+        count: records,
+    })
 }

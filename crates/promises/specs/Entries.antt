@@ -1,10 +1,10 @@
 -- What the contracts of the entries say alike. Assumes nothing.
-use Rattle.std.specs.Prelude.{Bool, true, false, List, [], ◌∷◌, ◌++◌, ◌≡◌, ℕ, ◌+◌, ◌*◌, ◌<◌, ◌≤◌, length, take, drop, Result, Err}
+use Rattle.std.specs.Prelude.{Bool, true, false, List, [], ◌∷◌, ◌++◌, ◌≡◌, ℕ, ◌+◌, ◌*◌, ◌<◌, ◌≤◌, length, take, drop, Result, Ok, Err}
 use Rattle.answer.specs.declared.Refusal.{Refusal}
 use Rattle.answer.specs.declared.Values.{Values}
 use Rattle.broker.specs.State.{State}
-use Rattle.generator.specs.declared.Made.{Made}
-use Rattle.generator.specs.declared.Made.TheVariants.{Written, SeedZero, TooShort}
+use Rattle.generator.specs.Answer.{Made}
+use Rattle.generator.specs.declared.Unmade.TheVariants.{SeedZero, TooShort}
 use Rattle.generator_record.specs.MadeUp.{made_log, log_leaves}
 use Rattle.print_run.specs.Printed.{lines_of, last_lines}
 use Rattle.print_run.specs.Run.{Answered, Came}
@@ -29,11 +29,11 @@ EachAnswer P (a ∷ rest) = P a.answer × EachAnswer P rest
 -- "26 for seed zero, then 27 for a buffer shorter than 7 times n bytes; neither writes a byte"; else "The answer is the bytes written; the
 -- buffer beyond them is untouched."
 pub record Makes (word n : ℕ) (buffer : List ℕ) (made : Made) (after : List ℕ) : Type 0 where
-  pub seed_zero : word ≡ 0 → (made ≡ SeedZero) × (after ≡ buffer)
-  pub too_short : (word ≡ 0 → ⊥) → length buffer < 7 * n → (made ≡ TooShort) × (after ≡ buffer)
+  pub seed_zero : word ≡ 0 → (made ≡ Err SeedZero) × (after ≡ buffer)
+  pub too_short : (word ≡ 0 → ⊥) → length buffer < 7 * n → (made ≡ Err TooShort) × (after ≡ buffer)
   pub written :
       (word ≡ 0 → ⊥) → 7 * n ≤ length buffer →
-      (made ≡ Written (length (made_log n word)) (record { 0 = log_leaves n word })) ×
+      (made ≡ Ok (length (made_log n word), record { 0 = log_leaves n word })) ×
       (after ≡ made_log n word ++ drop (length (made_log n word)) buffer)
 
 -- a turn of a program, from a state and what is held, whose first byte stands at a position of the input, and whether the input is at its

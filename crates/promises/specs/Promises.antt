@@ -25,14 +25,14 @@ use Rattle.std.specs.Prelude.{
   min,
   leb,
   ltb,
-  negsuc,
-  pos,
+  Some,
+  None,
+  Ok,
+  Err,
   length,
   get_or,
   drop,
   replicate,
-  Ok,
-  Err,
 }
 use Rattle.std.proofs.Math.Option.{Option, none, some}
 use Rattle.std.proofs.Common.{sym, ap, ◌∙◌}
@@ -50,15 +50,17 @@ use Rattle.fairness.proofs.Laws.Sending.{kept_in_order}
 use Rattle.fairness.proofs.Laws.Served.{look_names_first, served}
 use Rattle.fairness.specs.Sending.{letters_sent, less_all_taken}
 use Rattle.fairness.specs.Served.{goes_by_looks, letters_taken}
+use Rattle.generator.specs.Answer as Maker
 use Rattle.generator.specs.Answer.{makes}
 use Rattle.generator.specs.Laws.Answer.{equal_seeds, in_two_parts}
 use Rattle.generator.specs.Laws.Read.{made_holds}
 use Rattle.generator.specs.Records.{Holds}
+use Rattle.generator.specs.declared.Unmade.{Unmade}
 use Rattle.generator_draw.specs.Draw.{words}
 use Rattle.generator_record.specs.MadeUp as MadeUp
 use Rattle.made_up_pass.specs.Course as PassCourse
 use Rattle.made_up_pass.specs.Ending.{Ends}
-use Rattle.made_up_pass.specs.declared.Ending.TheVariants as Pass
+use Rattle.made_up_pass.specs.declared.Stop.TheVariants as Pass
 use Rattle.ordering.specs.Claim.{
   Reading,
   Entry,
@@ -123,7 +125,6 @@ use Rattle.replay_course.specs.Laws.Course.{runs_over, runs_too_long}
 use Rattle.replay_stage.specs.Stage.{given_of, taken_in, then_of, after_write}
 use Rattle.replay_stage.specs.Words.{words_of}
 use Rattle.replay_stage.specs.declared.Ending.TheVariants as Ending
-use Rattle.replay_stage.specs.declared.Given.TheVariants.{Failed, Nothing, Bytes}
 use Rattle.replay_stage.specs.declared.Stage.{Stage}
 use Rattle.replay_stage.specs.declared.Then.TheVariants as Then
 use Rattle.record.specs.Laws.Record.{at_end_lem, no_kind, cut_short, whole, value_back}
@@ -679,20 +680,20 @@ module _ {read written : List ℕ} {s : State} {base : ℕ} {held : List ℕ} {d
 
 -- What the program `replay` does with what its calls give.
 
--- A read that answers below zero has failed; one that gives nothing is the input's end, and no other is.
-pub what_a_read_gave :
-    ((k room : ℕ) → given_of (negsuc k) room ≡ Failed) ×
-    ((room : ℕ) → given_of (pos 0) room ≡ Nothing) ×
-    ((k room : ℕ) → given_of (pos (suc k)) (suc room) ≡ Bytes (suc (min k room)))
-what_a_read_gave = (λ k room. refl, λ room. simp unary_clauses, λ k room. simp unary_clauses)
+-- A read that answers with an error has failed; one that gives no byte is the input's end, and no other is.
+pub what_a_read_gave : (E : Type 0) →
+    ((why : E) (room : ℕ) → given_of (Err why) room ≡ None) ×
+    ((room : ℕ) → given_of {E = E} (Ok 0) room ≡ Some 0) ×
+    ((k room : ℕ) → given_of {E = E} (Ok (suc k)) (suc room) ≡ Some (suc (min k room)))
+what_a_read_gave E = (λ why room. refl, λ room. simp unary_clauses, λ k room. simp unary_clauses)
 
--- What it gave is held behind what was held; only where it gave nothing the input is at its end; where it failed the program stops.
+-- What it gave is held behind what was held; only where it gave no byte the input is at its end; where it failed the program stops.
 pub what_a_read_does : (at : Stage) →
-    (taken_in at Failed ≡
+    (taken_in at None ≡
     record { held = at.held; base = at.base; done = at.done; used = at.used; then = Then.Stop Ending.Unread }) ×
-    (taken_in at Nothing ≡ record { held = at.held; base = at.base; done = true; used = at.used; then = Then.Turn }) ×
-    ((n : ℕ) → taken_in at (Bytes n) ≡
-    record { held = at.held + n; base = at.base; done = false; used = at.used; then = Then.Turn })
+    (taken_in at (Some 0) ≡ record { held = at.held; base = at.base; done = true; used = at.used; then = Then.Turn }) ×
+    ((n : ℕ) → taken_in at (Some (suc n)) ≡
+    record { held = at.held + suc n; base = at.base; done = false; used = at.used; then = Then.Turn })
 what_a_read_does at = (refl, refl, λ n. refl)
 
 -- Behind a turn it takes another, reads, or stops; and where a write fails it stops.
@@ -748,9 +749,10 @@ pub made_up_log_goes_on : (word n m : ℕ) (whole first second : List ℕ) → (
 made_up_log_goes_on = in_two_parts
 
 -- The program `made_up`: it has handed all of the pass to the output, or it is refused with 26, for seed zero alone, or the output failed.
-pub made_up_hands_over_the_pass : (seed count : ℕ) → Ends seed count Pass.Whole →
+pub made_up_hands_over_the_pass : (seed count : ℕ) → Ends seed count (Ok tt) →
     (seed ≡ 0 → ⊥) × (word : ℕ) × (written : List ℕ) × PassCourse.Course seed count word 0 written × (written ≡ MadeUp.made_log count seed)
 made_up_hands_over_the_pass seed count h = (h.good, h.word, h.written, h.course, h.pass)
 
-pub made_up_is_refused_for_seed_zero : (seed count n : ℕ) → Ends seed count (Pass.Refused n) → (n ≡ 26) × (seed ≡ 0)
-made_up_is_refused_for_seed_zero seed count n h = h
+pub made_up_is_refused_for_seed_zero : (seed count : ℕ) (why : Unmade) → Ends seed count (Err (Pass.Refused why)) →
+    (Maker.number why ≡ 26) × (seed ≡ 0)
+made_up_is_refused_for_seed_zero seed count why h = h

@@ -4,7 +4,7 @@
 
 use replay_course::take_turn;
 use replay_stage::words::words;
-use replay_stage::{BUFFER_LENGTH, Then, after_write, answer_of, begun, take_in};
+use replay_stage::{BUFFER_LENGTH, Then, after_write, begun, take_in};
 use std::io::Read;
 use steps_load::fresh;
 
@@ -24,7 +24,7 @@ fn main(rt: HostRuntime) {
             }
             Then::Read => {
                 let held = stage.held;
-                let got = answer_of(rt.stdin().read(&mut buffer[held..]));
+                let got = rt.stdin().read(&mut buffer[held..]);
                 stage = take_in(stage, got, &buffer[held..]);
             }
             Then::Stop(why) => {

@@ -2,9 +2,9 @@
 // write, and what it says as it ends. Paper 01, "The printed run".
 #![tactic(auto)]
 
-ghost use Rattle.std.specs.Prelude.{◌≡◌, ◌+◌, ◌≤◌, ◌<◌, ◌^◌, IfOk, length};
+ghost use Rattle.std.specs.Prelude.{◌≡◌, ◌+◌, ◌≤◌, ◌<◌, length};
 ghost use Rattle.print_turn.specs.Turn.{buffer_room};
-ghost use Rattle.replay_stage.specs.Stage.{answer_of, begins, given_of, taken_in, then_of, after_write};
+ghost use Rattle.replay_stage.specs.Stage.{begins, given_of, taken_in, then_of, after_write};
 
 use print_turn::Next;
 use std::io;
@@ -15,7 +15,7 @@ pub mod words;
 pub const BUFFER_LENGTH: usize = 65536;
 
 // How the program ends.
-#[derive(Clone, Copy)]
+#[derive(Clone, Copy, PartialEq, Eq)]
 pub enum Ending {
     // The run is over.
     Over,
@@ -28,7 +28,7 @@ pub enum Ending {
 }
 
 // What the program does next.
-#[derive(Clone, Copy)]
+#[derive(Clone, Copy, PartialEq, Eq)]
 pub enum Then {
     // It takes a turn, and writes what the page shows.
     Turn,
@@ -40,24 +40,13 @@ pub enum Then {
 
 // Where the program stands: how many bytes are held at the buffer's front, where they begin in the input, whether the input is at its
 // end, how much of the page is used, and what is next.
-#[derive(Clone, Copy)]
+#[derive(Clone, Copy, PartialEq, Eq)]
 pub struct Stage {
     pub held: usize,
     pub base: u64,
     pub done: bool,
     pub used: usize,
     pub then: Then,
-}
-
-// What a read of the input gave.
-#[derive(Clone, Copy)]
-pub enum Given {
-    // It failed.
-    Failed,
-    // Nothing: the input is at its end.
-    Nothing,
-    // So many bytes.
-    Bytes(usize),
 }
 
 // Before the first call.
@@ -73,58 +62,36 @@ pub fn begun() -> Stage
     }
 }
 
-// What a read answered, as a number: how many bytes it read, and a number below zero where it failed.
-pub fn answer_of(got: io::Result<usize>) -> isize
-    requires { IfOk got (λ count. count < 2 ^ 63) }
-    ensures { result ≡ answer_of got }
-{
-    match got {
-        Ok(count) => count as isize,
-        Err(_) => -1,
-    }
-}
-
-// What a read gave, by what it answered and the part of the buffer that it was lent.
-fn read_gave(got: isize, lent: &[u8]) -> Given
+// What a read gave: so many bytes of the part of the buffer that it was lent, or nothing where it failed.
+fn read_gave(got: io::Result<usize>, lent: &[u8]) -> Option<usize>
     ensures { result ≡ given_of got (length lent.now) }
 {
-    if got < 0 {
-        return Given::Failed;
+    match got {
+        Ok(count) => Some(count.min(lent.len())),
+        Err(_) => None,
     }
-    let count = (got as usize).min(lent.len());
-    if count == 0 {
-        return Given::Nothing;
-    }
-    Given::Bytes(count)
 }
 
-// Behind a read, which was lent the buffer behind what is held.
-pub fn take_in(before: Stage, got: isize, lent: &[u8]) -> Stage
+// Behind a read, which was lent the buffer behind what is held. A read of no bytes is the input's end.
+pub fn take_in(before: Stage, got: io::Result<usize>, lent: &[u8]) -> Stage
     requires { (0 < length lent.now) × (before.held + length lent.now ≤ buffer_room) }
     ensures { result ≡ taken_in before (given_of got (length lent.now)) }
 {
-    let held = before.held;
     match read_gave(got, lent) {
-        Given::Failed => Stage {
-            held: held,
-            base: before.base,
-            done: before.done,
-            used: before.used,
+        None => Stage {
             then: Then::Stop(Ending::Unread),
+            ..before
         },
-        Given::Nothing => Stage {
-            held: held,
-            base: before.base,
+        Some(0) => Stage {
             done: true,
-            used: before.used,
             then: Then::Turn,
+            ..before
         },
-        Given::Bytes(more) => Stage {
-            held: held + more,
-            base: before.base,
+        Some(more) => Stage {
+            held: before.held + more,
             done: false,
-            used: before.used,
             then: Then::Turn,
+            ..before
         },
     }
 }
@@ -149,10 +116,7 @@ pub fn after_write(before: Stage, wrote: bool) -> Stage
         return before;
     }
     Stage {
-        held: before.held,
-        base: before.base,
-        done: before.done,
-        used: before.used,
         then: Then::Stop(Ending::Unwritten),
+        ..before
     }
 }

@@ -7,7 +7,7 @@ use Rattle.generator.proofs.go_on.Goals as goal
 
 pub returns : goal.returns
 returns c =
-    let put = c.put_records-progress.ensures in
+    let put = c.put_records-used.ensures in
     let room : longest * c.args.n ≤ length c.args.buffer.now = omega arith in
     let front = at_front put.put room in
-    rw (is_written c.args.word.0 c.args.n c.args.buffer.now c.if-at-eq0.false room, front.0, front.1, put.left)
+    rw (is_written c.args.word.0 c.args.n c.args.buffer.now c.if-word-eq0.false room, front.0, front.1, put.left)

@@ -1,27 +1,42 @@
 -- The laws of the course of a pass say what a turn of the loop does, and how the loop ends. Assumes nothing.
-use Rattle.std.proofs.Common.{[], arith, refl}
+use Rattle.std.proofs.Common.{◌≡◌, ℕ, false, [], Ok, Err, arith, refl}
+use Rattle.std.specs.Prelude.{IsErrAnd}
+use Rattle.generator.specs.declared.Unmade.{Unmade}
 use Rattle.made_up_pass.specs.Course.Course.{begun, further}
+use Rattle.made_up_pass.specs.Ending.{Ending, Ends}
 use Rattle.made_up_pass.specs.Laws.Ending.{because, ends_so}
+use Rattle.made_up_pass.specs.declared.Stop.TheVariants.{Refused}
 use Rattle.made_up.proofs.write_pass.Goals as goal
 
-pub loop-ending-init : goal.loop-ending-init
-loop-ending-init g c = (rw c.no_piece-piece.ensures (record { written = []; course = begun }), refl)
+pub loop-piece-init : goal.loop-piece-init
+loop-piece-init g c = (rw c.no_piece-piece.ensures (record { written = []; course = begun }), refl)
 
-pub loop-ending-preserved : goal.loop-ending-preserved
-loop-ending-preserved g c =
-    let piece = c.next_piece-piece in
-    let why = rw (← c.next_of-next.ensures, c.in-Again.is) at (because piece.result c.is_ok-written.result) in
-    let stands = c.loop-ending.invariant.0 in (
-      record { written = _; course = further piece.ensures why.0 stands.course },
-      omega (arith, c.loop-ending.invariant.1, piece.auto.buffer),
-    )
+pub loop-piece-preserved : goal.loop-piece-preserved
+loop-piece-preserved g c =
+    let inv = c.loop-piece.invariant in
+    (record { written = _; course = further c.in_ok-piece.ensures inv.0.course }, omega (arith, inv.1, c.next_piece.auto.buffer))
 
-pub returns-in-End : goal.returns-in-End
-returns-in-End g c =
-    let piece = c.next_piece-piece in
-    let written = c.is_ok-written.result in
-    let why = rw (← c.next_of-next.ensures, c.in-End.is) at (because piece.result written) in
-    let seed = c.ranges.seed.fits in
+-- The refusal of a piece is that of the pass.
+refused : (seed count : ℕ) (why : Unmade) (ending : Ending) → IsErrAnd ending (λ stop. stop ≡ Refused why) →
+    Ends seed count (Err (Refused why)) → Ends seed count ending
+refused seed count why (Ok whole) is ends = absurd is
+refused seed count why (Err stop) is ends = rw is ends
+
+pub returns-in_err-piece : goal.returns-in_err-piece
+returns-in_err-piece g c =
+    let why = c.in_err-piece.field-0.0 in
+    let stands = c.loop-piece.invariant.0 in
     let room = c.requires in
-    ends_so (omega (arith, seed)) c.loop-ending.invariant.0.course piece.ensures (omega (arith, room, c.loop-ending.invariant.1)) written
-    c.in-End.ending why
+    refused c.args.seed c.args.count why _ c.from_residual.ensures.1
+    (ends_so (omega (arith, c.ranges.seed.fits)) stands.course (omega (arith, room, c.loop-piece.invariant.1)) (Err why)
+    c.in_err-piece.ensures false (Err (Refused why)) refl)
+
+pub returns-in-Break : goal.returns-in-Break
+returns-in-Break g c =
+    let piece = c.in_ok-piece.piece in
+    let written = c.is_ok-written.result in
+    let why = rw (← c.next_of.ensures, c.in-Break.is) at (because (Ok piece) written) in
+    let stands = c.loop-piece.invariant.0 in
+    let room = c.requires in
+    ends_so (omega (arith, c.ranges.seed.fits)) stands.course (omega (arith, room, c.loop-piece.invariant.1)) (Ok piece)
+    c.in_ok-piece.ensures written c.in-Break.ending why

@@ -12,12 +12,12 @@ use Rattle.made_up_pass.specs.Piece.{piece_records}
 pub course_goes : {seed count word left : ℕ} {written : List ℕ} → Course seed count word left written
     → written ++ made_log left word ≡ made_log count seed
 course_goes begun = refl
-course_goes (further {word} {left} {written} pieced made course) =
+course_goes (further {word} {left} {written} pieced course) =
     let n = piece_records left in
     let rest = left - n in
     let all : n + rest ≡ left = omega (arith, (piece_records_lem left).0) in
     let parts = append_assoc written (made_log n word) (made_log rest (log_leaves n word)) in
-    rw (piece_bytes pieced made, piece_word pieced made, pieced.rest, parts)
+    rw (piece_bytes pieced, piece_word pieced, pieced.rest, parts)
     (rw (sym (log_goes_on rest n word), all) (course_goes course))
 
 -- Where no record is left, all that was written is the pass.

@@ -1,5 +1,5 @@
 -- Laws of a piece: how many records it has, and that it is the next part of the log. Assumes nothing.
-use Rattle.std.specs.Prelude.{◌≡◌, List, ◌≢◌, ℕ, ◌*◌, ◌≤◌, ◌<◌, length, take}
+use Rattle.std.specs.Prelude.{◌≡◌, List, ◌≢◌, ℕ, ◌*◌, ◌≤◌, ◌<◌, length, take, Ok}
 use Rattle.std.proofs.Common.{sym, ap, ◌∙◌, arith, lt-ltb, le-ltb}
 use Rattle.base.specs.Laws.Tests.{by_equal, by_less}
 use Rattle.generator.specs.Answer.{Outcome, makes}
@@ -18,7 +18,7 @@ piece_records_lem left =
     (λ h. rw (le-ltb left piece_most h) (omega arith, omega arith, λ some. omega arith))
 
 -- Where records are left behind a piece, they are fewer than before it.
-pub piece_less : {word left : ℕ} {buffer after : List ℕ} {p : Piece} → Pieced word left buffer p after → p.left ≢ 0 → p.left < left
+pub piece_less : {word left : ℕ} {buffer after : List ℕ} {p : Piece} → Pieced word left buffer (Ok p) after → p.left ≢ 0 → p.left < left
 piece_less {left = left} pieced more =
     let rest = pieced.rest in
     let within = (piece_records_lem left).0 in
@@ -26,21 +26,21 @@ piece_less {left = left} pieced more =
     omega arith
 
 -- A piece that is not refused is the next part of the log, and leaves the word behind it.
-module _ {word left : ℕ} {buffer after : List ℕ} {p : Piece} (pieced : Pieced word left buffer p after) (made : p.number ≡ 0) where
+module _ {word left : ℕ} {buffer after : List ℕ} {p : Piece} (pieced : Pieced word left buffer (Ok p) after) where
   abbrev outcome : Outcome
   outcome = makes word (piece_records left) buffer
 
   accepted : outcome.number ≡ 0
-  accepted = sym (ap (λ (o : Outcome). o.number) pieced.made) ∙ made
+  accepted = sym (ap (λ (o : Outcome). o.number) pieced.made)
 
   pub piece_bytes : take p.bytes after ≡ made_log (piece_records left) word
   piece_bytes = ap written pieced.made ∙ (what_is_written word (piece_records left) buffer accepted).0
 
-  pub piece_word : p.word ≡ log_leaves (piece_records left) word
+  pub piece_word : p.word.0 ≡ log_leaves (piece_records left) word
   piece_word = ap (λ (o : Outcome). o.word) pieced.made ∙ (what_is_written word (piece_records left) buffer accepted).1
 
--- The bytes of a piece fit its room, and a refused one has none.
-pub piece_fits : {word left : ℕ} {buffer after : List ℕ} {p : Piece} → Pieced word left buffer p after → p.bytes ≤ piece_room
+-- The bytes of a piece fit its room.
+pub piece_fits : {word left : ℕ} {buffer after : List ℕ} {p : Piece} → Pieced word left buffer (Ok p) after → p.bytes ≤ piece_room
 piece_fits {word} {left} {buffer} {p = p} pieced =
     let n = piece_records left in
     let bytes = ap (λ (o : Outcome). o.bytes) pieced.made in

@@ -1,6 +1,6 @@
 -- The laws of the course say what a turn and a read do to where the program stands. Assumes nothing.
-use Rattle.std.proofs.Common.{◌+◌, ◌-◌, ◌≤◌, ◌∙◌, arith, length, of_z, refl, rules, sym, to_z, w64}
-use borrow.Rule.Slice.PartMut.{mid_of, put_mid}
+use Rattle.std.proofs.Common.{◌+◌, ◌-◌, ◌≤◌, arith, length, refl, rules}
+use borrow.Rule.Slice.PartMut.{mid_of, put_mid, same_len_mid}
 use Rattle.std.proofs.lemmas.Slice.{take-put_mid_below}
 use Rattle.replay_course.specs.Laws.Course.{runs_begun, runs_turn, runs_read}
 use Rattle.replay.proofs.main.Goals as goal
@@ -19,10 +19,9 @@ loop-buffer-preserved c =
     let inv = c.loop-buffer.invariant in
     let held = c.loop-buffer.stage.held in
     let buffer = c.loop-buffer.buffer in
-    let bytes = c.read.new.buf in
+    let bytes = c.read-got.new.buf in
     let same = take-put_mid_below held (65536 - held) buffer bytes held (omega arith) (omega (arith, inv.long.0, inv.room)) in
-    let long = c.answer_of-got.array_long ∙ sym inv.long.0 in
-    let got = to_z w64 (of_z w64 c.answer_of-got.result) in
+    let long = same_len_mid held (65536 - held) buffer bytes c.read-got.auto.buf in
     let lent = length (mid_of held (65536 - held) (put_mid held (65536 - held) buffer bytes)) in
     let within : held + lent ≤ 65536 = search rules in
-    rw c.take_in-stage.ensures (runs_read inv c.in-Read.is _ same long got lent within)
+    rw c.take_in-stage.ensures (runs_read inv c.in-Read.is _ same long c.read-got.result lent within)

@@ -1,5 +1,28 @@
 -- What the program does keeps it in a course. Paper 01, "The printed run". Assumes nothing.
-use Rattle.std.specs.Prelude.{Bool, true, false, List, [], ◌∷◌, ◌++◌, ◌≡◌, refl, ℕ, ◌+◌, ◌≤◌, ◌<◌, ℤ, length, take, drop}
+use Rattle.std.specs.Prelude.{
+  Bool,
+  true,
+  false,
+  List,
+  [],
+  ◌∷◌,
+  ◌++◌,
+  ◌≡◌,
+  refl,
+  ℕ,
+  zero,
+  suc,
+  ◌+◌,
+  ◌≤◌,
+  ◌<◌,
+  length,
+  take,
+  drop,
+  Option,
+  Some,
+  None,
+  Result,
+}
 use Rattle.std.proofs.Common.{append-nil, ◌∙◌, arith, length-drop, take-append-drop, length-take-le, take-take}
 use Rattle.broker.specs.State.{State, fresh}
 use Rattle.print_course.specs.Course.Course.{begun, reads, turns}
@@ -15,8 +38,6 @@ use Rattle.replay_stage.specs.Laws.Given.{given_within}
 use Rattle.replay_course.specs.Advances.{behind, Advances}
 use Rattle.replay_stage.specs.Stage.{begins, given_of, taken_in, then_of, after_write}
 use Rattle.replay_stage.specs.declared.Ending.TheVariants as Ending
-use Rattle.replay_stage.specs.declared.Given.{Given}
-use Rattle.replay_stage.specs.declared.Given.TheVariants.{Failed, Nothing, Bytes}
 use Rattle.replay_stage.specs.declared.Stage.{Stage}
 use Rattle.replay_stage.specs.declared.Then.TheVariants as Then
 
@@ -125,14 +146,14 @@ stands_filled held buffer x buffer' n same some room =
 -- The program reads behind what the buffer holds.
 module _ {at : Stage} {s : State} {buffer page : List ℕ} (x : Runs at s buffer page) (e : at.then ≡ Then.Read) (buffer' : List ℕ)
     (same : take at.held buffer' ≡ take at.held buffer) (long : length buffer' ≡ length buffer)
-    (got : ℤ) (lent : ℕ) (within : at.held + lent ≤ buffer_room) where
+    {E : Type 0} (got : Result ℕ E) (lent : ℕ) (within : at.held + lent ≤ buffer_room) where
   reading : Stands s at.base (take at.held buffer) false
   reading = let r = rw e at x.holds in rw r.1 at r.0
 
-  by_given : (g : Given) → given_of got lent ≡ g → Runs (taken_in at g) s buffer' page
-  by_given Failed f =
+  by_given : (g : Option ℕ) → given_of got lent ≡ g → Runs (taken_in at g) s buffer' page
+  by_given None f =
       record { holds = rw same (rw e at x.holds).0; long = (long ∙ x.long.0, x.long.1); room = x.room; near = x.near }
-  by_given Nothing f =
+  by_given (Some zero) f =
       let course = rw (append-nil reading.read, append-nil (take at.held buffer)) at (reads reading.course []) in
       record {
         holds = rw same (record { read = reading.read; written = reading.written; course = course });
@@ -140,10 +161,10 @@ module _ {at : Stage} {s : State} {buffer page : List ℕ} (x : Runs at s buffer
         room = x.room;
         near = x.near;
       }
-  by_given (Bytes n) f =
-      let count = given_within got lent n f in
+  by_given (Some (suc n)) f =
+      let count = given_within got lent (suc n) f in
       record {
-        holds = stands_filled at.held buffer reading buffer' n same count.0 (omega (arith, long, x.long.0));
+        holds = stands_filled at.held buffer reading buffer' (suc n) same (omega arith) (omega (arith, long, x.long.0));
         long = (long ∙ x.long.0, x.long.1);
         room = omega arith;
         near = x.near;

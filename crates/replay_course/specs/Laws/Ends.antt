@@ -1,18 +1,37 @@
 -- The program ends: each of its turns comes further on or is not the next, and each read gives more, or comes to the input's end or to a
 -- stop. Assumes nothing.
-use Rattle.std.specs.Prelude.{Bool, true, false, cond, List, ◌≡◌, refl, ℕ, ◌+◌, ◌*◌, ◌-◌, ◌≤◌, ◌<◌, ℤ, length, take}
+use Rattle.std.specs.Prelude.{
+  Bool,
+  true,
+  false,
+  cond,
+  List,
+  ◌≡◌,
+  refl,
+  ℕ,
+  zero,
+  suc,
+  ◌+◌,
+  ◌*◌,
+  ◌-◌,
+  ◌≤◌,
+  ◌<◌,
+  length,
+  take,
+  Option,
+  Some,
+  None,
+  Result,
+}
 use Rattle.std.proofs.Common.{arith}
 use Rattle.broker.specs.State.{State}
 use Rattle.print_turn.specs.Turn.{buffer_room, Because}
 use Rattle.print_turn.specs.declared.Next.{Next}
 use Rattle.print_turn.specs.declared.Next.TheVariants.{Again, Read, End, TooLong}
 use Rattle.replay_course.specs.Course.{last, Runs}
-use Rattle.replay_stage.specs.Laws.Given.{given_within}
 use Rattle.replay_course.specs.Advances.{Advances}
 use Rattle.replay_stage.specs.Stage.{given_of, taken_in, then_of, after_write}
 use Rattle.replay_stage.specs.declared.Ending.TheVariants as Ending
-use Rattle.replay_stage.specs.declared.Given.{Given}
-use Rattle.replay_stage.specs.declared.Given.TheVariants.{Failed, Nothing, Bytes}
 use Rattle.replay_stage.specs.declared.Stage.{Stage}
 use Rattle.replay_stage.specs.declared.Then.{Then}
 
@@ -70,13 +89,12 @@ module _ {at : Stage} {s : State} {buffer page : List ℕ} (x : Runs at s buffer
         omega (arith, no_more after wrote)
 
   -- A read.
-  module _ (e : at.then ≡ Then.Read) (got : ℤ) (lent : ℕ) where
-    by_given : (g : Given) → given_of got lent ≡ g → ahead (taken_in at g) < ahead at
-    by_given Failed f = rw e (omega arith)
-    by_given Nothing f = let short = (rw e at x.holds).1 in rw (e, short) (omega (arith, x.room, x.near))
-    by_given (Bytes n) f =
+  module _ (e : at.then ≡ Then.Read) {E : Type 0} (got : Result ℕ E) (lent : ℕ) where
+    by_given : (g : Option ℕ) → given_of got lent ≡ g → ahead (taken_in at g) < ahead at
+    by_given None f = rw e (omega arith)
+    by_given (Some zero) f = let short = (rw e at x.holds).1 in rw (e, short) (omega (arith, x.room, x.near))
+    by_given (Some (suc n)) f =
         let short = (rw e at x.holds).1 in
-        let some = given_within got lent n f in
         rw (e, short) (omega (arith, x.room, x.near))
 
     pub less_read : ahead (taken_in at (given_of got lent)) < ahead at
