@@ -13,7 +13,6 @@ use Rattle.protocol.specs.Laws.Sound.{facts}
 use Rattle.protocol.specs.Sound.{sound}
 use Rattle.broker.specs.State.{State, messages, with_unread}
 use Rattle.roster.specs.Roster.{ranks_of}
-use Rattle.desk.specs.Desk.{desk_of}
 
 -- from a rank to another rank
 abbrev named : Message → Bool
@@ -34,7 +33,7 @@ sound_ranked s ok =
 pub state_held :
     (s : State) (slots contents roster : List ℕ) → sound s ≡ true →
     messages_in slots contents ≡ messages s → sent_in contents ≡ s.unread.sent → ranks_of roster ≡ with_unread nothing s →
-    desk_of slots contents roster ≡ s
+    with_unread (unread_in slots contents) (ranks_of roster) ≡ s
 state_held s slots contents roster ok mail counts ranks =
     let unread : unread_in slots contents ≡ s.unread =
     ap (λ (l : List Message). counted (sent_in contents) l) mail ∙ ap (λ (k : List ℕ). counted k (messages s)) counts ∙
