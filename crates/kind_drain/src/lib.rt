@@ -28,13 +28,7 @@ pub fn drain_verdict(r: Rank, p: Rank, desk: &Desk) -> Verdict
     let link = link_between(r, p, &desk.roster);
     let awaited = link.backlog;
     refuse_if(awaited.is_clear(), Refusal::NoBacklog)?;
-    let found = first_at(
-        p,
-        r,
-        Place::SourceChannel,
-        &desk.mail.slots,
-        &desk.mail.contents,
-    );
+    let found = first_at(p, r, Place::SourceChannel, &desk.mail);
     let nothing = found.is_none() && awaited.is_unheeded();
     refuse_if(nothing, Refusal::NothingToDrain)
 }
@@ -46,15 +40,9 @@ pub fn drain(r: Rank, p: Rank, desk: &mut Desk) -> Values
     ensures { DeskDoes (drain r p) desk.old result desk.new }
 {
     let mail = &mut desk.mail;
-    match first_at(p, r, Place::SourceChannel, &mail.slots, &mail.contents) {
+    match first_at(p, r, Place::SourceChannel, mail) {
         Some(m) => {
-            relabel_first(
-                p,
-                r,
-                Place::SourceChannel,
-                Place::SourceList,
-                &mut mail.slots,
-            );
+            relabel_first(p, r, Place::SourceChannel, Place::SourceList, mail);
             Values(0, m.value, m.sequence as Value)
         }
         None => {

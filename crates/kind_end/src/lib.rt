@@ -26,7 +26,7 @@ pub fn end_verdict(r: Rank, desk: &Desk) -> Verdict
     refuse_if(!alone, Refusal::Connected)?;
     let request = request_of(r, &desk.roster);
     refuse_if(request.is_some(), Refusal::RequestOpen)?;
-    let found = first_to(r, &desk.mail.slots, &desk.mail.contents);
+    let found = first_to(r, &desk.mail);
     refuse_if(found.is_some(), Refusal::UnreadLeft)
 }
 

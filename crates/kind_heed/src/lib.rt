@@ -33,7 +33,7 @@ pub fn heed(b: Rank, r: Rank, desk: &mut Desk) -> Values
     requires { (b.0 < ranks) × (r.0 < ranks) }
     ensures { DeskDoes (heed b r) desk.old result desk.new }
 {
-    let moved = relabel_between(r, b, Place::Channel, Place::EndList, &mut desk.mail.slots);
+    let moved = relabel_between(r, b, Place::Channel, Place::EndList, &mut desk.mail);
     connect(b, r, Connection::Closed, &mut desk.roster);
     awaiting(r, b, Backlog::Marked, &mut desk.roster);
     Values(widened(moved), 0, 0)

@@ -35,7 +35,7 @@ pub fn land(r: Rank, desk: &mut Desk) -> Values
     ensures { DeskDoes (land r) desk.old result desk.new }
 {
     let target = standing_of(r, &desk.roster).endpoint();
-    relabel_to(r, Place::SourceList, Place::EndList, &mut desk.mail.slots);
+    relabel_to(r, Place::SourceList, Place::EndList, &mut desk.mail);
     set_standing(r, Status::Running(target), &mut desk.roster);
     let listed = count_to(r, Place::EndList, &desk.mail.slots);
     Values(widened(listed), 0, 0)

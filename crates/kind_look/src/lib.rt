@@ -19,7 +19,7 @@ pub fn look_verdict(r: Rank, desk: &Desk) -> Verdict
     let receiver = standing_of(r, &desk.roster);
     one_rank(r, receiver)?;
     running(receiver)?;
-    let found = first_to(r, &desk.mail.slots, &desk.mail.contents);
+    let found = first_to(r, &desk.mail);
     refuse_if(found.is_none(), Refusal::NothingUnread)
 }
 
@@ -28,7 +28,7 @@ pub fn look_verdict(r: Rank, desk: &Desk) -> Verdict
 pub fn look(r: Rank, desk: &Desk) -> Values
     ensures { DeskDoes (look r) desk.now result desk.now }
 {
-    let found = first_to(r, &desk.mail.slots, &desk.mail.contents);
+    let found = first_to(r, &desk.mail);
     let sender = found.map_or(Rank(0), |m| m.sender);
     Values(sender.0 as Value, 0, 0)
 }

@@ -58,6 +58,6 @@ pub fn leave_behind(r: Rank, mail: &mut Mail)
     requires { r.0 < ranks }
     ensures { unread mail.new ≡ left_behind r (unread mail.old) }
 {
-    relabel_to(r, Place::EndList, Place::SourceList, &mut mail.slots);
-    relabel_to(r, Place::Channel, Place::SourceChannel, &mut mail.slots);
+    relabel_to(r, Place::EndList, Place::SourceList, mail);
+    relabel_to(r, Place::Channel, Place::SourceChannel, mail);
 }

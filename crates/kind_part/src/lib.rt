@@ -36,9 +36,9 @@ pub fn part(a: Rank, b: Rank, desk: &mut Desk) -> Values
     requires apart { is_same_rank a b ≡ false }
     ensures { DeskDoes (part a b) desk.old result desk.new }
 {
-    let slots = &mut desk.mail.slots;
-    let to_first = relabel_between(b, a, Place::Channel, Place::EndList, slots);
-    let to_second = relabel_between(a, b, Place::Channel, Place::EndList, slots);
+    let mail = &mut desk.mail;
+    let to_first = relabel_between(b, a, Place::Channel, Place::EndList, mail);
+    let to_second = relabel_between(a, b, Place::Channel, Place::EndList, mail);
     connect_both(a, b, Connection::Closed, &mut desk.roster);
     Values(widened(to_first), widened(to_second), 0)
 }

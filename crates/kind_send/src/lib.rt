@@ -31,7 +31,7 @@ pub fn send_verdict(a: Rank, b: Rank, desk: &Desk) -> Verdict
     refuse_if(link.connection.is_closed(), Refusal::NotConnected)?;
     let unread = unread(&desk.mail.slots);
     refuse_if(Transit::LIMIT <= unread, Refusal::Full)?;
-    let sent = sent_between(a, b, &desk.mail.contents);
+    let sent = sent_between(a, b, &desk.mail);
     refuse_if(Transit::MOST_SENT <= sent, Refusal::SequenceSpent)
 }
 
@@ -54,7 +54,6 @@ pub fn send(a: Rank, b: Rank, value: Value, desk: &mut Desk) -> Values
     ensures { DeskDoes (send a b value) desk.old result desk.new }
 {
     let place = place_over(link_between(a, b, &desk.roster).connection);
-    let mail = &mut desk.mail;
-    let pair = append(a, b, place, value, &mut mail.slots, &mut mail.contents);
+    let pair = append(a, b, place, value, &mut desk.mail);
     Values(widened(pair), 0, 0)
 }

@@ -36,8 +36,6 @@ pub fn take(b: Rank, a: Rank, desk: &mut Desk) -> Values
     requires nonzero { 0 < tally (between a b) (messages desk.old.mail) }
     ensures { DeskDoes (take b a) desk.old result desk.new }
 {
-    let mail = &mut desk.mail;
-    let removed = remove(a, b, &mut mail.slots, &mail.contents);
-    let m = removed.message;
-    Values(m.value, widened(removed.left), m.sequence as Value)
+    let (m, left) = remove(a, b, &mut desk.mail);
+    Values(m.value, widened(left), m.sequence as Value)
 }

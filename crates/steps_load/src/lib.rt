@@ -10,19 +10,15 @@ use broker::state::Broker;
 use desk::Desk;
 use roster::ROSTER_LENGTH;
 use soundness::is_sound;
-use transit::mail::Mail;
-use transit::{CELLS, CONTENTS_LENGTH, SLOTS_LENGTH};
+use transit::CELLS;
 
 // The fresh state, in place.
 pub fn fresh() -> Desk
     ensures { HoldsState fresh result }
 {
-    let mut slots = [0u16; SLOTS_LENGTH];
-    let mut contents = [0u32; CONTENTS_LENGTH];
     let mut roster = [0u64; ROSTER_LENGTH];
-    transit_load::clear([0; CELLS], &mut slots, &mut contents);
     roster_load::clear(&mut roster);
-    let mail = Mail { slots, contents };
+    let mail = transit_load::empty([0; CELLS]);
     Desk { mail, roster }
 }
 
@@ -33,13 +29,9 @@ pub fn load(broker: Broker) -> Option<Desk>
     if !is_sound(broker) {
         return None;
     }
-    let mut slots = [0u16; SLOTS_LENGTH];
-    let mut contents = [0u32; CONTENTS_LENGTH];
     let mut roster = [0u64; ROSTER_LENGTH];
-    let transit = broker.transit;
-    transit_load::load(transit, &mut slots, &mut contents);
+    let mail = transit_load::load(broker.transit);
     roster_load::load(broker, &mut roster);
-    let mail = Mail { slots, contents };
     Some(Desk { mail, roster })
 }
 
@@ -47,9 +39,8 @@ pub fn load(broker: Broker) -> Option<Desk>
 pub fn unload(broker: Broker, desk: &Desk) -> Broker
     ensures { view result ≡ state_of desk.now }
 {
-    let mail = &desk.mail;
     let room = broker.transit;
-    let messages = transit_load::unload_into(room, &mail.slots, &mail.contents);
+    let messages = transit_load::unload_into(room, &desk.mail);
     let mut next = roster_load::unload(broker, &desk.roster);
     next.transit = messages;
     next

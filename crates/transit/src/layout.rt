@@ -1,9 +1,11 @@
 // Where the columns of the slots and of the contents start, the numbers that stand for nothing, and the numbers of pairs and places.
-ghost use Rattle.std.specs.Prelude.{◌≡◌, ◌<◌};
+ghost use Rattle.std.specs.Prelude.{◌≡◌, ◌<◌, ◌+◌, get_or};
+ghost use Rattle.transit.specs.Columns.{SLOTS, PLACES, SEQUENCES};
 ghost use Rattle.transit.specs.Message.{ranks, cells, pair_of};
 ghost use Rattle.transit.specs.Slots.{place_of, message_of};
 
-use crate::{Message, Place, RANKS, Rank, Sequence, Value};
+use crate::mail::Mail;
+use crate::{Message, Place, RANKS, Rank};
 
 // How many slots there are.
 pub const SLOTS: usize = 2048;
@@ -60,12 +62,19 @@ fn place_of(n: u16) -> Place
     }
 }
 
-// The message of a slot of a pair.
-pub fn message_of(pair: u16, place: u16, value: Value, sequence: Sequence) -> Message
-    requires { pair < cells }
-    ensures { result ≡ message_of pair place value sequence }
+// The message in a slot of a pair.
+pub fn message_at(mail: &Mail, at: usize) -> Message
+    requires at_lt_slots { at < SLOTS }
+    requires live { get_or mail.now.slots at 0 < cells }
+    ensures { result ≡ message_of (get_or mail.now.slots at 0) (get_or mail.now.slots (PLACES + at) 0)
+        (get_or mail.now.contents at 0) (get_or mail.now.contents (SEQUENCES + at) 0) }
 {
-    let from = (pair / ROW) as u8;
-    let to = (pair % ROW) as u8;
-    Message::new(Rank(from), Rank(to), place_of(place), value, sequence)
+    let pair = mail.slots[at];
+    Message {
+        sender: Rank((pair / ROW) as u8),
+        receiver: Rank((pair % ROW) as u8),
+        place: place_of(mail.slots[PLACES + at]),
+        value: mail.contents[at],
+        sequence: mail.contents[SEQUENCES + at],
+    }
 }

@@ -1,101 +1,74 @@
 // The messages go between the two forms: a `Transit`, which is handed over and saved, and the slots, which a run works on.
 #![tactic(auto)]
 
-ghost use Rattle.std.specs.Prelude.{true, List, [], ◌≡◌, ℕ, ◌≤◌, length};
+ghost use Rattle.std.specs.Prelude.{true, [], ◌≡◌, ◌≤◌};
 ghost use Rattle.base.specs.Lists.{every};
-ghost use Rattle.transit.specs.Columns.{sent_in, slots_length, contents_length};
-ghost use Rattle.transit.specs.Mail.{IsMail, unread_in, Loaded};
+ghost use Rattle.transit.specs.Columns.{columns_of};
+ghost use Rattle.transit.specs.InPlace.{messages, sent, unread};
 ghost use Rattle.transit.specs.Slots.{ranked};
 ghost use Rattle.transit.specs.Unread.{unread_of, limit};
 
-use transit::layout::{
-    COUNT, DEAD, FIRST, NONE, PLACES, SEQUENCES, SLOTS, TAIL, UNREAD, message_of,
-};
-use transit::{CELLS, Contents, Sequence, Slots, Transit};
+use transit::layout::{COUNT, DEAD, FIRST, NONE, SLOTS, TAIL, UNREAD, message_at};
+use transit::mail::Mail;
+use transit::{CELLS, CONTENTS_LENGTH, Contents, SLOTS_LENGTH, Sequence, Slots, Transit};
 use transit_put::put;
 use transit_sent::{counts_in, keep_counts};
 
-// No message is unread.
-fn empty(slots: &mut Slots)
-    requires { length slots.old ≡ slots_length }
-    ensures { (contents : List ℕ) → length contents ≡ contents_length
-        → Loaded [] (sent_in contents) slots.new contents }
+// No message is unread, and each pair has sent as many as the counts say.
+pub fn empty(counts: [Sequence; CELLS]) -> Mail
+    ensures none { messages result ≡ [] }
+    ensures counts { sent result ≡ counts }
+    ensures packed { (columns_of result.slots).tail ≡ 0 }
 {
-    let mut i: usize = 0;
-    while i < SLOTS {
+    let mut slots: Slots = [0; SLOTS_LENGTH];
+    for i in 0..SLOTS {
         slots[i] = DEAD;
-        i += 1;
     }
-    let mut p: usize = 0;
-    while p < CELLS {
+    for p in 0..CELLS {
         slots[FIRST + p] = NONE;
         slots[COUNT + p] = 0;
-        p += 1;
     }
     slots[TAIL] = 0;
     slots[UNREAD] = 0;
-}
-
-// No message is unread, and each pair has sent as many as the counts say.
-pub fn clear(counts: [Sequence; CELLS], slots: &mut Slots, contents: &mut Contents)
-    requires slots_len { length slots.old ≡ slots_length }
-    requires contents_len { length contents.old ≡ contents_length }
-    ensures { Loaded [] counts slots.new contents.new }
-{
-    empty(slots);
-    keep_counts(counts, contents);
+    let mut contents: Contents = [0; CONTENTS_LENGTH];
+    keep_counts(counts, &mut contents);
+    Mail { slots, contents }
 }
 
 // The messages of a value stand in the slots, packed to the front.
-pub fn load(t: Transit, slots: &mut Slots, contents: &mut Contents)
-    requires slots_len { length slots.old ≡ slots_length }
-    requires contents_len { length contents.old ≡ contents_length }
+pub fn load(t: Transit) -> Mail
     requires count_le_limit { t.count ≤ limit }
     requires t_value { every ranked (unread_of t).messages ≡ true }
-    ensures { Loaded (unread_of t).messages t.sent slots.new contents.new }
+    ensures same { unread result ≡ unread_of t }
+    ensures packed { (columns_of result.slots).tail ≡ t.count }
 {
-    clear(t.sent, slots, contents);
-    let end = t.count;
-    let mut i: usize = 0;
-    while i < end {
-        let m = t.messages[i];
-        put(m, slots, contents);
-        i += 1;
+    let mut mail = empty(t.sent);
+    for i in 0..t.count {
+        put(t.messages[i], &mut mail);
     }
+    mail
 }
 
 // The messages of the slots as a value, in the room of `t`.
-pub fn unload_into(t: Transit, slots: &Slots, contents: &Contents) -> Transit
-    requires { IsMail slots.now contents.now }
-    ensures { unread_of result ≡ unread_in slots.now contents.now }
+pub fn unload_into(t: Transit, mail: &Mail) -> Transit
+    ensures { unread_of result ≡ unread mail.now }
 {
     let mut value = t;
-    let end = slots[TAIL] as usize;
     let mut n: usize = 0;
-    let mut i: usize = 0;
-    while i < end {
-        let pair = slots[i];
-        if pair < DEAD {
-            let m = message_of(
-                pair,
-                slots[PLACES + i],
-                contents[i],
-                contents[SEQUENCES + i],
-            );
-            value.messages[n] = m;
+    for i in 0..usize::from(mail.slots[TAIL]) {
+        if mail.slots[i] < DEAD {
+            value.messages[n] = message_at(mail, i);
             n += 1;
         }
-        i += 1;
     }
     value.count = n;
-    value.sent = counts_in(contents);
+    value.sent = counts_in(mail);
     value
 }
 
 // The messages of the slots as a value.
-pub fn unload(slots: &Slots, contents: &Contents) -> Transit
-    requires { IsMail slots.now contents.now }
-    ensures { unread_of result ≡ unread_in slots.now contents.now }
+pub fn unload(mail: &Mail) -> Transit
+    ensures { unread_of result ≡ unread mail.now }
 {
-    unload_into(Transit::fresh(), slots, contents)
+    unload_into(Transit::fresh(), mail)
 }

@@ -1,14 +1,17 @@
 // Changes of places. Nothing is reordered, and nothing but the place changes.
 #![tactic(auto)]
 
-ghost use Rattle.std.specs.Prelude.{List, ℕ, ◌<◌};
+ghost use Rattle.std.specs.Prelude.{◌≡◌, ◌<◌};
+ghost use Rattle.base.specs.Lists.{tally};
 ghost use Rattle.transit.specs.Columns.{SLOTS};
-ghost use Rattle.transit.specs.Mail.{IsMail, Relabelled, FirstRelabelled};
-ghost use Rattle.transit.specs.Message.{ranks};
+ghost use Rattle.transit.specs.InPlace.{messages, unread};
+ghost use Rattle.transit.specs.Message.{picks, ranks};
 ghost use Rattle.transit.specs.Pick.{Passed};
+ghost use Rattle.transit.specs.Unread.{relabel_all, relabel_first};
 ghost use Rattle.transit.specs.declared.Selection.{Selection};
 
 use transit::layout::{PLACES, SLOTS, pair_of};
+use transit::mail::Mail;
 use transit::pick::Pick;
 use transit::{Count, Place, Rank, Slots};
 use transit_seek::seek;
@@ -28,33 +31,31 @@ fn pass(w: Pick, to: u16, slots: &mut Slots) -> Count
 }
 
 // The messages from `a` to `b` at one place go to another; how many.
-pub fn relabel_between(a: Rank, b: Rank, from: Place, to: Place, slots: &mut Slots) -> Count
+pub fn relabel_between(a: Rank, b: Rank, from: Place, to: Place, mail: &mut Mail) -> Count
     requires a_lt_ranks { a.0 < ranks }
     requires b_lt_ranks { b.0 < ranks }
-    ensures { (contents : List ℕ) → IsMail slots.old contents
-        → Relabelled (Selection.BetweenAt a b from) to slots.old contents result slots.new }
+    ensures all { unread mail.new ≡ relabel_all (Selection.BetweenAt a b from) to (unread mail.old) }
+    ensures moved { result ≡ tally (picks (Selection.BetweenAt a b from)) (messages mail.old) }
 {
-    pass(Pick::between(a, b, from), u16::from(to.number()), slots)
+    pass(Pick::between(a, b, from), u16::from(to.number()), &mut mail.slots)
 }
 
 // The messages to `r` at one place go to another; how many.
-pub fn relabel_to(r: Rank, from: Place, to: Place, slots: &mut Slots) -> Count
-    requires { r.0 < ranks }
-    ensures { (contents : List ℕ) → IsMail slots.old contents
-        → Relabelled (Selection.ToAt r from) to slots.old contents result slots.new }
+pub fn relabel_to(r: Rank, from: Place, to: Place, mail: &mut Mail) -> Count
+    ensures all { unread mail.new ≡ relabel_all (Selection.ToAt r from) to (unread mail.old) }
+    ensures moved { result ≡ tally (picks (Selection.ToAt r from)) (messages mail.old) }
 {
-    pass(Pick::to(r, from), u16::from(to.number()), slots)
+    pass(Pick::to(r, from), u16::from(to.number()), &mut mail.slots)
 }
 
 // The first message from `a` to `b` at one place goes to another.
-pub fn relabel_first(a: Rank, b: Rank, from: Place, to: Place, slots: &mut Slots)
+pub fn relabel_first(a: Rank, b: Rank, from: Place, to: Place, mail: &mut Mail)
     requires a_lt_ranks { a.0 < ranks }
     requires b_lt_ranks { b.0 < ranks }
-    ensures { (contents : List ℕ) → IsMail slots.old contents
-        → FirstRelabelled (Selection.BetweenAt a b from) to slots.old contents slots.new }
+    ensures { unread mail.new ≡ relabel_first (Selection.BetweenAt a b from) to (unread mail.old) }
 {
-    let at = seek(pair_of(a, b), u16::from(from.number()), slots);
+    let at = seek(pair_of(a, b), u16::from(from.number()), mail);
     if at < SLOTS {
-        slots[PLACES + at] = u16::from(to.number());
+        mail.slots[PLACES + at] = u16::from(to.number());
     }
 }

@@ -3,28 +3,24 @@
 
 ghost use Rattle.std.specs.Prelude.{◌<◌};
 ghost use Rattle.transit.specs.Columns.{columns_of};
-ghost use Rattle.transit.specs.Index.{Index};
 ghost use Rattle.transit.specs.Message.{cells};
 ghost use Rattle.transit.specs.Search.{Reached};
 
-use transit::Slots;
 use transit::layout::{FIRST, NEXT, PLACES, SLOTS};
+use transit::mail::Mail;
 
-// The first slot of a pair at the place of a number, or 2,048. A link that leads back, which no index has, ends the walk.
-pub fn seek(pair: usize, place: u16, slots: &Slots) -> usize
+// The first slot of a pair at the place of a number, or 2,048.
+pub fn seek(pair: usize, place: u16, mail: &Mail) -> usize
     requires { pair < cells }
-    ensures { Index (columns_of slots.now) → Reached (columns_of slots.now) pair place result }
+    ensures { Reached (columns_of mail.now.slots) pair place result }
 {
-    let mut at = usize::from(slots[FIRST + pair]);
+    let mut at = usize::from(mail.slots[FIRST + pair]);
+    // A walk along links counts no index.
     while at < SLOTS {
-        if slots[PLACES + at] == place {
+        if mail.slots[PLACES + at] == place {
             return at;
         }
-        let next = usize::from(slots[NEXT + at]);
-        if next <= at {
-            return SLOTS;
-        }
-        at = next;
+        at = usize::from(mail.slots[NEXT + at]);
     }
     at
 }

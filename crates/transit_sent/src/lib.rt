@@ -2,36 +2,38 @@
 #![tactic(auto)]
 
 ghost use Rattle.std.specs.Prelude.{◌≡◌, ◌<◌, length};
-ghost use Rattle.transit.specs.Columns.{sent_in, contents_length};
+ghost use Rattle.transit.specs.Columns.{contents_length};
+ghost use Rattle.transit.specs.InPlace.{sent};
 ghost use Rattle.transit.specs.Message.{ranks};
 ghost use Rattle.transit.specs.Sent.{Counted, Kept};
 ghost use Rattle.transit.specs.Unread.{sent_at, most_sent};
 
 use transit::layout::{SENT, pair_of};
+use transit::mail::Mail;
 use transit::{CELLS, Contents, RANKS, Rank, Sequence};
 
 // How many messages `a` has sent to `b`.
-pub fn sent_between(a: Rank, b: Rank, contents: &Contents) -> Sequence
-    ensures { length contents.now ≡ contents_length → result ≡ sent_at a b (sent_in contents.now) }
+pub fn sent_between(a: Rank, b: Rank, mail: &Mail) -> Sequence
+    ensures { result ≡ sent_at a b (sent mail.now) }
 {
     let pair = RANKS * usize::from(a.0) + usize::from(b.0);
     if pair < CELLS {
-        return contents[SENT + pair];
+        return mail.contents[SENT + pair];
     }
     0
 }
 
 // The pair has sent one more; how many then.
-pub fn count_one(a: Rank, b: Rank, contents: &mut Contents) -> Sequence
-    requires contents_len { length contents.old ≡ contents_length }
+pub fn count_one(a: Rank, b: Rank, mail: &mut Mail) -> Sequence
     requires a_lt_ranks { a.0 < ranks }
     requires b_lt_ranks { b.0 < ranks }
-    requires contents_bound { sent_at a b (sent_in contents.old) < most_sent }
-    ensures { Counted a b contents.old result contents.new }
+    requires contents_bound { sent_at a b (sent mail.old) < most_sent }
+    ensures slots { mail.new.slots ≡ mail.old.slots }
+    ensures counted { Counted a b mail.old.contents result mail.new.contents }
 {
     let pair = pair_of(a, b);
-    let n = contents[SENT + pair] + 1;
-    contents[SENT + pair] = n;
+    let n = mail.contents[SENT + pair] + 1;
+    mail.contents[SENT + pair] = n;
     n
 }
 
@@ -43,10 +45,10 @@ pub fn keep_counts(counts: [Sequence; CELLS], contents: &mut Contents)
 }
 
 // The counts as they are handed over.
-pub fn counts_in(contents: &Contents) -> [Sequence; CELLS]
-    ensures { length contents.now ≡ contents_length → result ≡ sent_in contents.now }
+pub fn counts_in(mail: &Mail) -> [Sequence; CELLS]
+    ensures { result ≡ sent mail.now }
 {
     let mut counts: [Sequence; CELLS] = [0; CELLS];
-    counts.copy_from_slice(&contents[SENT..]);
+    counts.copy_from_slice(&mail.contents[SENT..]);
     counts
 }

@@ -1,10 +1,8 @@
 -- What a drain leaves and answers, by what it found. Assumes nothing.
-use Rattle.std.specs.Prelude.{Some, None, ◌≡◌, List, ℕ}
+use Rattle.std.specs.Prelude.{Some, None, ◌≡◌}
 use Rattle.std.proofs.Math.Path.{ap}
 use Rattle.std.proofs.Common.{◌∙◌}
-use Rattle.transit.specs.Laws.Promise.{first_relabelled_unread}
-use Rattle.transit.specs.Mail.{FirstRelabelled, unread_in}
-use Rattle.transit.specs.Unread.{Unread, first_sent}
+use Rattle.transit.specs.Unread.{Unread, first_sent, relabel_first}
 use Rattle.transit.specs.declared.Message.{Message}
 use Rattle.transit.specs.declared.Place.TheVariants.{SourceList}
 use Rattle.transit.specs.declared.Rank.{Rank}
@@ -13,17 +11,17 @@ use Rattle.protocol.specs.Done.{done}
 use Rattle.protocol.specs.Migrate.{on_source_channel, drain}
 use Rattle.broker.specs.declared.link.Backlog.TheVariants.{Clear}
 
-module _ (known : State) {slots contents slots' : List ℕ} where
+module _ (known : State) {u u' : Unread} where
   -- the first message on the channel is read into the mover's list
   pub drain_message :
       (r p : Rank) (m : Message) →
-      Some m ≡ first_sent (on_source_channel p r) (unread_in slots contents) →
-      FirstRelabelled (on_source_channel p r) SourceList slots contents slots' →
-      done (with_unread (unread_in slots' contents) known) 0 m.value m.sequence
-      ≡ drain r p (with_unread (unread_in slots contents) known)
+      Some m ≡ first_sent (on_source_channel p r) u →
+      u' ≡ relabel_first (on_source_channel p r) SourceList u →
+      done (with_unread u' known) 0 m.value m.sequence
+      ≡ drain r p (with_unread u known)
   unfolding drain
   drain_message r p m found read =
-      ap (λ (u : Unread). done (with_unread u known) 0 m.value m.sequence) (first_relabelled_unread read) ∙ rw (← found)
+      ap (λ (v : Unread). done (with_unread v known) 0 m.value m.sequence) read ∙ rw (← found)
 
 -- the end marker is read
 pub drain_marker :

@@ -4,7 +4,7 @@ use Rattle.kind_heed.proofs.heed.Goals as goal
 
 pub returns : goal.returns
 returns c = λ ok.
-    let d = c.args.desk.now in
-    let listed = c.relabel_between-moved.ensures d.mail.contents d.mail.kept in
+    let ranks = ranks_of c.args.desk.now.roster in
+    let read = c.relabel_between-moved.ensures in
     rw c.widened.ensures
-    (heed_done (ranks_of d.roster) c.args.b c.args.r listed c.connect.ensures.same c.awaiting.ensures.same)
+    (heed_done ranks c.args.b c.args.r read.all read.moved c.connect.ensures.same c.awaiting.ensures.same)

@@ -1,10 +1,10 @@
 -- What a heed leaves and answers, by what became of the messages and of what is known of the ranks. Assumes nothing.
-use Rattle.std.specs.Prelude.{◌≡◌, List, ℕ}
+use Rattle.std.specs.Prelude.{◌≡◌, ℕ}
 use Rattle.std.proofs.Math.Path.{ap}
 use Rattle.std.proofs.Common.{◌∙◌}
-use Rattle.transit.specs.Laws.Promise.{relabelled_unread}
-use Rattle.transit.specs.Mail.{Relabelled, unread_in}
-use Rattle.transit.specs.Unread.{Unread}
+use Rattle.base.specs.Lists.{tally}
+use Rattle.transit.specs.Message.{picks}
+use Rattle.transit.specs.Unread.{Unread, relabel_all}
 use Rattle.transit.specs.declared.Place.TheVariants.{EndList}
 use Rattle.transit.specs.declared.Rank.{Rank}
 use Rattle.broker.specs.State.{connect, await, State, with_links, with_unread}
@@ -14,14 +14,15 @@ use Rattle.protocol.specs.Migrate.{heed}
 use Rattle.broker.specs.declared.link.Backlog.TheVariants.{Marked}
 use Rattle.broker.specs.declared.link.Connection.TheVariants.{Closed}
 
-module _ (known : State) {slots contents slots' : List ℕ} where
+module _ (known : State) {u u' : Unread} where
   -- the channel is read, the line closes, and the mover's await is marked
   pub heed_done :
       (b r : Rank) {n : ℕ} {closed marked : State} →
-      Relabelled (on_channel r b) EndList slots contents n slots' →
+      u' ≡ relabel_all (on_channel r b) EndList u →
+      n ≡ tally (picks (on_channel r b)) u.messages →
       closed ≡ with_links (connect b r Closed known.links) known →
       marked ≡ with_links (await r b Marked closed.links) closed →
-      done (with_unread (unread_in slots' contents) marked) n 0 0 ≡ heed b r (with_unread (unread_in slots contents) known)
+      done (with_unread u' marked) n 0 0 ≡ heed b r (with_unread u known)
   unfolding heed
-  heed_done b r {n} {marked = marked} read closes marks =
-      ap (λ (u : Unread). done (with_unread u marked) n 0 0) (relabelled_unread read) ∙ rw (marks, closes, read.moved)
+  heed_done b r {n} {marked = marked} read moved closes marks =
+      ap (λ (v : Unread). done (with_unread v marked) n 0 0) read ∙ rw (marks, closes, moved)

@@ -14,5 +14,6 @@ returns c = λ ok.
     let ranks = ranks_of d.roster in
     let target = c.endpoint-target.ensures ∙ ap endpoint c.standing_of.ensures in
     let runs = c.set_standing.ensures.same ∙ ap (λ (v : Vmid). with_status c.args.r (Running v) ranks) target in
-    let listed = c.relabel_to.ensures d.mail.contents d.mail.kept in
-    rw c.widened.ensures (land_done ranks c.args.r listed runs (c.count_to-listed.ensures d.mail.contents listed.kept))
+    let after = c.relabel_to.new.mail in
+    rw c.widened.ensures
+    (land_done ranks c.args.r c.relabel_to.ensures.all runs (c.count_to-listed.ensures after.contents after.kept))

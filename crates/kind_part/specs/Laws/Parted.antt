@@ -5,10 +5,9 @@ use Rattle.std.proofs.Common.{◌∙◌, arith, eqb-true, ne_eqb}
 use Rattle.std.proofs.lemmas.Bool.{eqb-false}
 use Rattle.std.proofs.lemmas.List.{length-map}
 use Rattle.base.specs.Laws.Lists.{select_map}
-use Rattle.transit.specs.Laws.Promise.{relabelled_unread}
+use Rattle.transit.specs.Laws.Operations.{relabels}
 use Rattle.base.specs.Laws.Tests.{by_test, both_left}
 use Rattle.base.specs.Lists.{tally, change_each}
-use Rattle.transit.specs.Mail.{Relabelled, messages_in, unread_in}
 use Rattle.transit.specs.Message.{is_same_rank, between, picks, relabelled}
 use Rattle.transit.specs.Unread.{Unread, each_to, relabel_all}
 use Rattle.transit.specs.declared.Message.{Message}
@@ -39,13 +38,16 @@ module _ (a b : Rank) (apart : is_same_rank a b ≡ false) where
       ∙ simp length-map
 
   pub part_done :
-      {slots contents slots1 slots2 : List ℕ} {n1 n2 : ℕ} {after : State} (known : State) →
-      Relabelled (on_channel b a) EndList slots contents n1 slots1 →
-      Relabelled (on_channel a b) EndList slots1 contents n2 slots2 →
+      {u u1 u2 : Unread} {n1 n2 : ℕ} {after : State} (known : State) →
+      u1 ≡ relabel_all (on_channel b a) EndList u →
+      n1 ≡ tally (picks (on_channel b a)) u.messages →
+      u2 ≡ relabel_all (on_channel a b) EndList u1 →
+      n2 ≡ tally (picks (on_channel a b)) u1.messages →
       after ≡ connect_both a b Closed known →
-      done (with_unread (unread_in slots2 contents) after) n1 n2 0 ≡ part a b (with_unread (unread_in slots contents) known)
+      done (with_unread u2 after) n1 n2 0 ≡ part a b (with_unread u known)
   unfolding part
-  part_done {slots} {contents} {n1 = n1} {n2 = n2} {after} known read both lines =
-      let moved = relabelled_unread both ∙ ap (relabel_all (on_channel a b) EndList) (relabelled_unread read) in
-      ap (λ (u : Unread). done (with_unread u after) n1 n2 0) moved ∙
-      rw (lines, both.moved, read.moved, read.same, other_channel (messages_in slots contents))
+  part_done {u} {n1 = n1} {n2 = n2} {after} known read to_first both to_second lines =
+      let moved = both ∙ ap (relabel_all (on_channel a b) EndList) read in
+      let listed = ap (λ (v : Unread). v.messages) (read ∙ relabels (on_channel b a) u EndList) in
+      ap (λ (v : Unread). done (with_unread v after) n1 n2 0) moved ∙
+      rw (lines, to_second, to_first, listed, other_channel u.messages)

@@ -6,11 +6,22 @@ use Rattle.std.proofs.lemmas.List.{length-map}
 use Rattle.base.specs.Laws.Lists.{length_change_first}
 use Rattle.transit.specs.Laws.Operations.{appends, relabels, relabels_first}
 use Rattle.transit.specs.Laws.Removed.{removed_sent_first}
-use Rattle.base.specs.Lists.{select, tally, never_falls}
+use Rattle.base.specs.Lists.{select, tally, without, never_falls}
 use Rattle.transit.specs.Columns.{sent_in}
-use Rattle.transit.specs.Mail.{messages_in, unread_in, Appended, Left, Relabelled, FirstRelabelled}
+use Rattle.transit.specs.Mail.{messages_in, unread_in, Appended, Relabelled, FirstRelabelled}
 use Rattle.transit.specs.Message.{place_index, between}
-use Rattle.transit.specs.Unread.{limit, next_message, head, appended, removed, relabel_all, relabel_first}
+use Rattle.transit.specs.Unread.{
+  Unread,
+  limit,
+  counted,
+  next_message,
+  head,
+  first_sent,
+  appended,
+  removed,
+  relabel_all,
+  relabel_first,
+}
 use Rattle.transit.specs.declared.Message.{Message}
 use Rattle.transit.specs.declared.Place.{Place}
 use Rattle.transit.specs.declared.Rank.{Rank}
@@ -37,15 +48,15 @@ module _ {slots contents slots' : List ℕ} where
       → unread_in slots' contents ≡ relabel_first s p (unread_in slots contents)
   first_relabelled_unread {s} {p} x = rw (relabels_first s (unread_in slots contents) p, x.same, length_change_first)
 
-  -- the pair's first message has left: where places never fall, that is the first in place order
-  pub left_unread : {a b : Rank} {m : Message} {rest : ℕ} → Left a b slots contents m rest slots'
-      → 0 < tally (between a b) (messages_in slots contents)
-      → never_falls (map place_index (select (between a b) (messages_in slots contents))) ≡ true
-      → removed (Between a b) (unread_in slots contents)
-      ≡ record { found = Some m; unread = unread_in slots' contents }
-  left_unread {a} {b} x some rises = rw (← x.found) (at (select (between a b) (messages_in slots contents)) refl some)
+-- the pair's first message has left: where places never fall, that is the first in place order
+module _ (a b : Rank) (u : Unread) where
+  pub first_removed : {m : Message} → first_sent (Between a b) u ≡ Some m
+      → 0 < tally (between a b) u.messages
+      → never_falls (map place_index (select (between a b) u.messages)) ≡ true
+      → removed (Between a b) u ≡ record { found = Some m; unread = counted u.sent (without (between a b) u.messages) }
+  first_removed found some rises = rw (← found) (at (select (between a b) u.messages) refl some)
     where
-      at : (l : List Message) → select (between a b) (messages_in slots contents) ≡ l → 0 < length l
-          → removed (Between a b) (unread_in slots contents) ≡ record { found = head l; unread = unread_in slots' contents }
+      at : (l : List Message) → select (between a b) u.messages ≡ l → 0 < length l
+          → removed (Between a b) u ≡ record { found = head l; unread = counted u.sent (without (between a b) u.messages) }
       at [] e h = absurd (omega arith)
-      at (m ∷ l) e h = removed_sent_first (Between a b) (unread_in slots contents) m l rises e ∙ rw x.same
+      at (m ∷ l) e h = removed_sent_first (Between a b) u m l rises e

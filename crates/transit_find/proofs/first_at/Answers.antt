@@ -1,4 +1,4 @@
-use Rattle.std.proofs.Common.{sym, ap, arith}
+use Rattle.std.proofs.Common.{sym, ap}
 use Rattle.transit.specs.Message.{picks}
 use Rattle.transit.specs.Unread.{head}
 use Rattle.transit.specs.declared.Selection.TheVariants.{BetweenAt}
@@ -10,25 +10,29 @@ use Rattle.transit_find.proofs.first_at.Goals.{After-seek-at}
 
 -- The walk came to the first slot of a message of the pair at the place.
 is_earliest : (c : After-seek-at) →
-    let a = c.args in
-    Earliest a.slots.now a.contents.now (picks (BetweenAt a.a a.b a.place)) c.seek-at.result
+    let m = c.args.mail.now in
+    Earliest m.slots m.contents (picks (BetweenAt c.args.a c.args.b c.args.place)) c.seek-at.result
 is_earliest c =
     let a = c.args in
-    reached_earliest c.requires a.a a.b c.if-a-ge-LIMIT.false c.if-b-ge-LIMIT.false a.place
-    (rw (c.pair_of.ensures, c.from.ensures, c.number.ensures) at (c.seek-at.ensures c.requires.index))
+    reached_earliest a.mail.now.kept a.a a.b c.if-a-ge-LIMIT.false c.if-b-ge-LIMIT.false a.place
+    (rw (c.pair_of.ensures, c.from.ensures, c.number.ensures) at c.seek-at.ensures)
 
 pub returns-then-a-ge-LIMIT : goal.returns-then-a-ge-LIMIT
 returns-then-a-ge-LIMIT c =
     let a = c.args in
-    sym (ap head (none_in a.slots.now a.contents.now _ (λ m h. rw (between_past a.a a.b m c.then-a-ge-LIMIT.either h))))
+    let m = a.mail.now in
+    sym (ap head (none_in m.slots m.contents _ (λ x h. rw (between_past a.a a.b x c.then-a-ge-LIMIT.either h))))
 
-pub message_of-m-requires : goal.message_of-m-requires
-message_of-m-requires c = earliest_live c.requires (is_earliest (goal.at.message_of-m-requires c).After-seek-at) (omega arith)
+pub returns-then-at-ge-SLOTS : goal.returns-then-at-ge-SLOTS
+returns-then-at-ge-SLOTS c =
+    let there = is_earliest (goal.at.returns-then-at-ge-SLOTS c).After-seek-at in
+    sym (ap head (earliest_nothing c.args.mail.now.kept there c.if-at-ge-SLOTS.true))
 
-pub returns-then-at-lt-SLOTS : goal.returns-then-at-lt-SLOTS
-returns-then-at-lt-SLOTS c =
-    rw c.message_of-m.ensures
-    (sym (earliest_found c.requires (is_earliest (goal.at.returns-then-at-lt-SLOTS c).After-seek-at) (omega arith)))
+pub message_at-requires-clause-live : goal.message_at-requires-clause-live
+message_at-requires-clause-live c =
+    earliest_live c.args.mail.now.kept (is_earliest (goal.at.message_at-requires-clause-live c).After-seek-at) c.if-at-ge-SLOTS.false
 
 pub returns : goal.returns
-returns c = sym (ap head (earliest_nothing c.requires (is_earliest (goal.at.returns c).After-seek-at) c.if-at-lt-SLOTS.false))
+returns c =
+    rw c.message_at.ensures
+    (sym (earliest_found c.args.mail.now.kept (is_earliest (goal.at.returns c).After-seek-at) c.if-at-ge-SLOTS.false))
