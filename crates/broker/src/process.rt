@@ -1,7 +1,7 @@
 // A process as the broker knows it: its two levels of name, whether it runs, and its connection request.
 // Paper 01, "Names and places".
 ghost use Rattle.std.specs.Prelude.{◌≡◌};
-ghost use Rattle.broker.specs.Names.{same_vmid, is_started, is_running, is_migrating, is_ended, is_live, endpoint};
+ghost use Rattle.broker.specs.Names.{is_started, is_running, is_migrating, is_ended, is_live, endpoint};
 ghost use Rattle.broker.specs.Names.{unknown, asks_for, posted_to};
 
 use transit::Rank;
@@ -39,12 +39,6 @@ impl Vmid {
         ensures { result ≡ unknown }
     {
         Vmid(0, 0)
-    }
-
-    pub fn same(self, other: Vmid) -> bool
-        ensures { result ≡ same_vmid self other }
-    {
-        self == other
     }
 }
 

@@ -34,7 +34,7 @@ pub fn drain_verdict(r: Rank, p: Rank, desk: &Desk) -> Verdict
 }
 
 // `r`'s source process reads what stands first on its channel from `p`: a message, or the end marker.
-#[tactic(auto, using(crate::specs::Laws::Done::drain_message, crate::specs::Laws::Done::drain_marker))]
+#[tactic(auto, using(crate::specs::Laws::Done::drain_marker))]
 pub fn drain(r: Rank, p: Rank, desk: &mut Desk) -> Values
     requires { (r.0 < ranks) × (p.0 < ranks) }
     ensures { DeskDoes (drain r p) desk.old result desk.new }

@@ -30,7 +30,6 @@ pub fn take_verdict(b: Rank, a: Rank, desk: &Desk) -> Verdict
 }
 
 // The first message from `a` to `b` leaves.
-#[tactic(auto, using(crate::specs::Laws::Done::take_done))]
 pub fn take(b: Rank, a: Rank, desk: &mut Desk) -> Values
     requires a_lt_ranks { (a.0 < ranks) × (b.0 < ranks) }
     requires nonzero { 0 < tally (between a b) (messages desk.old.mail) }

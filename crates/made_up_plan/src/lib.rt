@@ -49,11 +49,7 @@ fn most(which: Which) -> u64
 
 // What is done by what the program was given: how many words, its own name among them, and the first argument and the second, or nothing of
 // one that was not given whole. How many there are comes before what they are, and the seed before the count.
-pub fn plan_of(
-    given: usize,
-    seed: Option<&[u8]>,
-    count: Option<&[u8]>,
-) -> Result<Pass, Problem>
+pub fn plan_of(given: usize, seed: Option<&[u8]>, count: Option<&[u8]>) -> Result<Pass, Problem>
     ensures { result ≡ plan_of given (argument_of (option_map (λ text. text.now) seed.entry) (most Seed))
         (argument_of (option_map (λ text. text.now) count.entry) (most Count)) }
 {
@@ -66,10 +62,14 @@ pub fn plan_of(
     if given <= COUNT_AT {
         return Err(Problem::Missing(Which::Count));
     }
-    let word = argument_of(seed, most(Which::Seed))
-        .map_err(|fault| Problem::Faulty(Which::Seed, fault))?;
-    let records = argument_of(count, most(Which::Count))
-        .map_err(|fault| Problem::Faulty(Which::Count, fault))?;
+    let word = argument_of(seed, most(Which::Seed)).map_err(|fault| Problem::Faulty(
+        Which::Seed,
+        fault,
+    ))?;
+    let records = argument_of(count, most(Which::Count)).map_err(|fault| Problem::Faulty(
+        Which::Count,
+        fault,
+    ))?;
     Ok(Pass {
         seed: word as u32,
         count: records,

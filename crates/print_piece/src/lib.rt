@@ -7,6 +7,7 @@ ghost use Rattle.print_piece.specs.Ran.{RanSome, Stops};
 
 use desk::Desk;
 use print_lines::record_line;
+use print_page::Page;
 use record::Fault;
 use record::decode::decode;
 use settle::settle;
@@ -41,48 +42,50 @@ pub fn run_piece(piece: &[u8], base: u64, page: &mut [u8], desk: &mut Desk) -> S
         (state_of desk.new) result.at result.used result.steps page.new }
     ensures stops { Stops result.stop piece.now result.at result.used (length page.old) }
 {
+    let mut shown = Page {
+        bytes: page,
+        used: 0,
+    };
     let mut at: usize = 0;
-    let mut used: usize = 0;
     let mut steps: usize = 0;
     while at < piece.len() {
-        if page.len() - used < ROOM {
+        if shown.bytes.len() - shown.used < ROOM {
             return Stopped {
-                at: at,
-                used: used,
-                steps: steps,
+                at,
+                used: shown.used,
+                steps,
                 stop: Stop::PageFull,
             };
         }
         match decode(piece, at) {
             Ok((read, next)) => {
-                let kind = piece[at];
                 let answer = settle(read, desk);
-                used = record_line(page, used, base + at as u64, kind, answer);
+                record_line(&mut shown, base + at as u64, piece[at], answer);
                 at = next;
                 steps += 1;
             }
             Err(Fault::Unknown) => {
                 return Stopped {
-                    at: at,
-                    used: used,
-                    steps: steps,
+                    at,
+                    used: shown.used,
+                    steps,
                     stop: Stop::KindUnknown,
                 };
             }
             Err(Fault::Cut) => {
                 return Stopped {
-                    at: at,
-                    used: used,
-                    steps: steps,
+                    at,
+                    used: shown.used,
+                    steps,
                     stop: Stop::RecordCut,
                 };
             }
         }
     }
     Stopped {
-        at: at,
-        used: used,
-        steps: steps,
+        at,
+        used: shown.used,
+        steps,
         stop: Stop::RecordCut,
     }
 }

@@ -10,6 +10,7 @@ ghost use Rattle.print_turn.specs.Turn.{next_of, buffer_room, Turns};
 use desk::Desk;
 use print_buffer::keep_rest;
 use print_ending::run_end;
+use print_page::Page;
 use print_piece::{Stop, run_piece};
 
 // What a program does when it has written what the page shows.
@@ -73,8 +74,8 @@ pub fn turn(
 {
     if FARTHEST <= base {
         return Turned {
-            held: held,
-            base: base,
+            held,
+            base,
             used: 0,
             next: Next::TooLong,
         };
@@ -91,23 +92,24 @@ pub fn turn(
             return Turned {
                 held: kept,
                 base: further,
-                used: used,
+                used,
                 next: Next::Again,
             };
         }
         let mail = &desk.mail;
-        let end = run_end(page, used, further, &buffer[..kept], &mail.slots);
+        let mut shown = Page { bytes: page, used };
+        run_end(&mut shown, further, &buffer[..kept], &mail.slots);
         return Turned {
             held: kept,
             base: further,
-            used: end,
+            used: shown.used,
             next: Next::End,
         };
     }
     Turned {
         held: kept,
         base: further,
-        used: used,
-        next: next,
+        used,
+        next,
     }
 }

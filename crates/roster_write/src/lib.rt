@@ -79,10 +79,9 @@ pub fn connect(a: Rank, b: Rank, line: Connection, roster: &mut Roster)
         (with_links (connect a b line (ranks_of roster.old).links) (ranks_of roster.old)) }
 {
     let link = link_between(a, b, roster);
-    let backlog = link.backlog;
     let changed = Link {
         connection: line,
-        backlog: backlog,
+        ..link
     };
     set_link(a, b, changed, roster);
 }
@@ -93,11 +92,7 @@ pub fn awaiting(r: Rank, p: Rank, backlog: Backlog, roster: &mut Roster)
         (with_links (await r p backlog (ranks_of roster.old).links) (ranks_of roster.old)) }
 {
     let link = link_between(r, p, roster);
-    let line = link.connection;
-    let changed = Link {
-        connection: line,
-        backlog: backlog,
-    };
+    let changed = Link { backlog, ..link };
     set_link(r, p, changed, roster);
 }
 

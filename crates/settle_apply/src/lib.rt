@@ -11,6 +11,7 @@ use answer::Values;
 use desk::Desk;
 use record::Record;
 
+// One arm a kind: what maps kinds to closures or trait objects would have the same twelve arms.
 #[tactic(auto, unfolding(protocol::specs::Step::apply))]
 pub fn apply(read: Record, desk: &mut Desk) -> Values
     requires { refusal (state_of desk.old) read ≡ none }

@@ -37,7 +37,11 @@ pub fn relabel_between(a: Rank, b: Rank, from: Place, to: Place, mail: &mut Mail
     ensures all { unread mail.new ≡ relabel_all (Selection.BetweenAt a b from) to (unread mail.old) }
     ensures moved { result ≡ tally (picks (Selection.BetweenAt a b from)) (messages mail.old) }
 {
-    pass(Pick::between(a, b, from), u16::from(to.number()), &mut mail.slots)
+    pass(
+        Pick::between(a, b, from),
+        u16::from(to.number()),
+        &mut mail.slots,
+    )
 }
 
 // The messages to `r` at one place go to another; how many.

@@ -11,7 +11,7 @@ use Rattle.protocol.specs.Done.{done}
 use Rattle.protocol.specs.Migrate.{on_source_channel, drain}
 use Rattle.broker.specs.declared.link.Backlog.TheVariants.{Clear}
 
-module _ (known : State) {u u' : Unread} where
+module _ (known : State) (u : Unread) {u' : Unread} where
   -- the first message on the channel is read into the mover's list
   pub drain_message :
       (r p : Rank) (m : Message) →

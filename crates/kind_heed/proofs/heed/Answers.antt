@@ -1,3 +1,4 @@
+use Rattle.transit.specs.InPlace.{unread}
 use Rattle.roster.specs.Roster.{ranks_of}
 use Rattle.kind_heed.specs.Laws.Done.{heed_done}
 use Rattle.kind_heed.proofs.heed.Goals as goal
@@ -7,4 +8,4 @@ returns c = λ ok.
     let ranks = ranks_of c.args.desk.now.roster in
     let read = c.relabel_between-moved.ensures in
     rw c.widened.ensures
-    (heed_done ranks c.args.b c.args.r read.all read.moved c.connect.ensures.same c.awaiting.ensures.same)
+    (heed_done ranks (unread c.args.desk.now.mail) c.args.b c.args.r read.all read.moved c.connect.ensures.same c.awaiting.ensures.same)

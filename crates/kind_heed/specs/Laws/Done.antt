@@ -14,7 +14,7 @@ use Rattle.protocol.specs.Migrate.{heed}
 use Rattle.broker.specs.declared.link.Backlog.TheVariants.{Marked}
 use Rattle.broker.specs.declared.link.Connection.TheVariants.{Closed}
 
-module _ (known : State) {u u' : Unread} where
+module _ (known : State) (u : Unread) {u' : Unread} where
   -- the channel is read, the line closes, and the mover's await is marked
   pub heed_done :
       (b r : Rank) {n : ℕ} {closed marked : State} →

@@ -4,6 +4,7 @@ use Rattle.broker.specs.Names.{endpoint}
 use Rattle.broker.specs.State.{with_status}
 use Rattle.broker.specs.declared.process.Status.TheVariants.{Running}
 use Rattle.broker.specs.declared.process.Vmid.{Vmid}
+use Rattle.transit.specs.InPlace.{unread}
 use Rattle.roster.specs.Roster.{ranks_of}
 use Rattle.kind_land.specs.Laws.Done.{land_done}
 use Rattle.kind_land.proofs.land.Goals as goal
@@ -16,4 +17,4 @@ returns c = λ ok.
     let runs = c.set_standing.ensures.same ∙ ap (λ (v : Vmid). with_status c.args.r (Running v) ranks) target in
     let after = c.relabel_to.new.mail in
     rw c.widened.ensures
-    (land_done ranks c.args.r c.relabel_to.ensures.all runs (c.count_to-listed.ensures after.contents after.kept))
+    (land_done ranks (unread d.mail) c.args.r c.relabel_to.ensures.all runs (c.count_to-listed.ensures after.contents after.kept))

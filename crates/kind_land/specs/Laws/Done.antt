@@ -13,7 +13,7 @@ use Rattle.protocol.specs.Migrate.{land}
 use Rattle.broker.specs.Names.{endpoint}
 use Rattle.broker.specs.declared.process.Status.TheVariants.{Running}
 
-module _ (known : State) {u u' : Unread} where
+module _ (known : State) (u : Unread) {u' : Unread} where
   -- the arrival has the mover's list, and runs
   pub land_done :
       (r : Rank) {n : ℕ} {running : State} →

@@ -1,3 +1,4 @@
+use Rattle.transit.specs.InPlace.{unread}
 use Rattle.roster.specs.Roster.{ranks_of}
 use Rattle.kind_part.specs.Laws.Parted.{part_done}
 use Rattle.kind_part.proofs.part.Goals as goal
@@ -8,4 +9,4 @@ returns c = λ ok.
     let read = c.relabel_between-to_first.ensures in
     let both = c.relabel_between-to_second.ensures in
     rw (c.widened.ensures, c.widened-2.ensures)
-    (part_done c.args.a c.args.b c.requires.apart ranks read.all read.moved both.all both.moved c.connect_both.ensures.same)
+    (part_done c.args.a c.args.b c.requires.apart (unread c.args.desk.now.mail) ranks read.all read.moved both.all both.moved c.connect_both.ensures.same)

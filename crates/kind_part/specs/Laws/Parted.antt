@@ -38,7 +38,7 @@ module _ (a b : Rank) (apart : is_same_rank a b ≡ false) where
       ∙ simp length-map
 
   pub part_done :
-      {u u1 u2 : Unread} {n1 n2 : ℕ} {after : State} (known : State) →
+      (u : Unread) {u1 u2 : Unread} {n1 n2 : ℕ} {after : State} (known : State) →
       u1 ≡ relabel_all (on_channel b a) EndList u →
       n1 ≡ tally (picks (on_channel b a)) u.messages →
       u2 ≡ relabel_all (on_channel a b) EndList u1 →
@@ -46,7 +46,7 @@ module _ (a b : Rank) (apart : is_same_rank a b ≡ false) where
       after ≡ connect_both a b Closed known →
       done (with_unread u2 after) n1 n2 0 ≡ part a b (with_unread u known)
   unfolding part
-  part_done {u} {n1 = n1} {n2 = n2} {after} known read to_first both to_second lines =
+  part_done u {n1 = n1} {n2 = n2} {after} known read to_first both to_second lines =
       let moved = both ∙ ap (relabel_all (on_channel a b) EndList) read in
       let listed = ap (λ (v : Unread). v.messages) (read ∙ relabels (on_channel b a) u EndList) in
       ap (λ (v : Unread). done (with_unread v after) n1 n2 0) moved ∙

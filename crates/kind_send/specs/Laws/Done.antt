@@ -9,7 +9,7 @@ use Rattle.protocol.specs.Done.{done}
 use Rattle.protocol.specs.Messages.{place_over, send}
 use Rattle.broker.specs.State.{State, connection, with_unread}
 
-module _ (a b : Rank) (known : State) {u u' : Unread} where
+module _ (a b : Rank) (known : State) (u : Unread) {u' : Unread} where
   -- the message is behind all others
   pub send_done :
       {n : ℕ} (v : ℕ) (p : Place) →

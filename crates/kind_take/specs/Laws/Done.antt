@@ -13,7 +13,7 @@ use Rattle.protocol.specs.Messages.{take}
 use Rattle.protocol.specs.Sound.{sound}
 use Rattle.broker.specs.State.{State, with_unread}
 
-module _ (a b : Rank) (known : State) {u u' : Unread} where
+module _ (a b : Rank) (known : State) (u : Unread) {u' : Unread} where
   -- the pair's first message has left, which in a sound state is the first in place order
   pub take_done :
       {m : Message} {left : ℕ} → first_sent (Between a b) u ≡ Some m →

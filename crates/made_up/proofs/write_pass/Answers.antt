@@ -1,10 +1,10 @@
 -- The laws of the course of a pass say what a turn of the loop does, and how the loop ends. Assumes nothing.
 use Rattle.std.proofs.Common.{◌≡◌, ℕ, false, [], Ok, Err, arith, refl}
 use Rattle.std.specs.Prelude.{IsErrAnd}
-use Rattle.generator.specs.declared.Unmade.{Unmade}
 use Rattle.made_up_pass.specs.Course.Course.{begun, further}
 use Rattle.made_up_pass.specs.Ending.{Ending, Ends}
 use Rattle.made_up_pass.specs.Laws.Ending.{because, ends_so}
+use Rattle.made_up_pass.specs.declared.Stop.{Stop}
 use Rattle.made_up_pass.specs.declared.Stop.TheVariants.{Refused}
 use Rattle.made_up.proofs.write_pass.Goals as goal
 
@@ -16,18 +16,18 @@ loop-piece-preserved g c =
     let inv = c.loop-piece.invariant in
     (record { written = _; course = further c.in_ok-piece.ensures inv.0.course }, omega (arith, inv.1, c.next_piece.auto.buffer))
 
--- The refusal of a piece is that of the pass.
-refused : (seed count : ℕ) (why : Unmade) (ending : Ending) → IsErrAnd ending (λ stop. stop ≡ Refused why) →
-    Ends seed count (Err (Refused why)) → Ends seed count ending
-refused seed count why (Ok whole) is ends = absurd is
-refused seed count why (Err stop) is ends = rw is ends
+-- A pass that is known to stop so ends as it may.
+stopped : (seed count : ℕ) (stop : Stop) (ending : Ending) → IsErrAnd ending (λ given. given ≡ stop) → Ends seed count (Err stop) →
+    Ends seed count ending
+stopped seed count stop (Ok whole) is ends = absurd is
+stopped seed count stop (Err given) is ends = rw is ends
 
 pub returns-in_err-piece : goal.returns-in_err-piece
 returns-in_err-piece g c =
     let why = c.in_err-piece.field-0.0 in
     let stands = c.loop-piece.invariant.0 in
     let room = c.requires in
-    refused c.args.seed c.args.count why _ c.from_residual.ensures.1
+    stopped c.args.seed c.args.count (Refused why) _ c.from_residual.ensures.1
     (ends_so (omega (arith, c.ranges.seed.fits)) stands.course (omega (arith, room, c.loop-piece.invariant.1)) (Err why)
     c.in_err-piece.ensures false (Err (Refused why)) refl)
 

@@ -30,11 +30,13 @@ pub returns-in-End : goal.returns-in-End
 returns-in-End c =
     let bounds = c.requires in
     let piece = c.run_piece-stopped.ensures in
-    let end = c.run_end-end.ensures in
+    let end = c.run_end.ensures in
     let desk = c.run_piece-stopped.new.desk in
+    let ends =
     turn_ends piece.ran c.keep_rest-kept.ensures bounds.0 bounds.2 c.if-base-ge-FARTHEST.false
-    end.put (omega (arith, c.if-page-used-lt-ENDING.false)) (end.same _ desk.mail.kept)
-    c.run_piece-stopped.result.stop c.args.done piece.stops (sym c.next_of-next.ensures ∙ c.in-End.is)
+    end.put.put (omega (arith, c.if-page-used-lt-ENDING.false)) (end.same _ desk.mail.kept)
+    c.run_piece-stopped.result.stop c.args.done piece.stops (sym c.next_of-next.ensures ∙ c.in-End.is) in
+    rw (c.page-in-End-1.given.1.1 (sym end.put.same)) ends
 
 pub returns : goal.returns
 returns c =
