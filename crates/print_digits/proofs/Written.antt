@@ -1,7 +1,7 @@
 -- The library's text of a number is the number in decimal, and has one digit more than the highest power of ten in it. Assumes nothing.
-use Rattle.std.specs.Prelude.{◌≡◌, refl, List, ◌∷◌, [], ◌++◌, ℕ, suc, ◌+◌, ◌*◌, ◌/◌, ◌%◌, ◌^◌, ◌≤◌, ◌<◌, length}
+use Rattle.std.specs.Prelude.{◌≡◌, refl, ℕ, suc, ◌+◌, ◌*◌, ◌^◌, ◌≤◌, ◌<◌, length}
 use Rattle.std.specs.Prelude.{decimal as written}
-use Rattle.std.proofs.Common.{sym, ap, ◌∙◌, arith, lt-ltb, le-ltb, length-append, add-one, pow-suc}
+use Rattle.std.proofs.Common.{sym, arith, lt-ltb, le-ltb, length-append, add-one, pow-suc}
 use Rattle.std.proofs.Math.Nat.{pow-le-pow_right}
 use Rattle.std.proofs.lemmas.Fmt.{AppendsLastDigit, decimal_from_appends, length-decimal-le, length-decimal-le_succ, decimal_by_steps}
 use Rattle.base.specs.Laws.Tests.{by_test}
@@ -28,4 +28,7 @@ digits_counted n k h low high =
     let most = length-decimal-le (k + 1) n (omega arith) up h in
     let least : length (written n) ≤ k → ⊥ =
     λ le. let small = pow-le-pow_right {n = 10} (omega arith) le in let below = below_power n h in omega arith in
-    rw (← as_written n h) (by_test (ltb k (length (written n))) (λ t. let more = ltb-true k _ t in omega arith) (λ t. absurd (least (ltb-false k _ t))))
+    rw (← as_written n h)
+    (by_test (ltb k (length (written n)))
+    (λ t. let more = ltb-true k _ t in omega arith)
+    (λ t. absurd (least (ltb-false k _ t))))

@@ -1,8 +1,7 @@
 // How many messages each pair has sent: read, kept and handed over. Paper 02, change 4.
 #![tactic(auto)]
 
-ghost use Rattle.std.specs.Prelude.{◌≡◌, ◌<◌, length};
-ghost use Rattle.transit.specs.Columns.{contents_length};
+ghost use Rattle.std.specs.Prelude.{◌≡◌, ◌<◌};
 ghost use Rattle.transit.specs.InPlace.{sent};
 ghost use Rattle.transit.specs.Message.{ranks};
 ghost use Rattle.transit.specs.Sent.{Counted, Kept};

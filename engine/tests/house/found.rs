@@ -2,7 +2,7 @@
 //! one of its cases, and that the check finds by itself now. They are stated and
 //! proved as before, and no proof cites them.
 
-pub const FOUND: [&str; 34] = [
+pub const FOUND: [&str; 36] = [
     "base.specs.Laws.Below.count_failed",
     "base.specs.Laws.Below.count_passed",
     "base.specs.Laws.Stores.any_default",
@@ -20,6 +20,7 @@ pub const FOUND: [&str; 34] = [
     "made_up_pass.specs.Laws.Piece.piece_fits",
     "made_up_pass.specs.Laws.Piece.piece_less",
     "print_buffer.specs.Laws.Buffer.all_moved",
+    "print_buffer.specs.Laws.Buffer.one_moved",
     "print_lines.specs.Laws.Parts.one_line",
     "record.specs.Laws.Record.kind_least",
     "replay_course.specs.Laws.Course.used_fits",
@@ -35,6 +36,7 @@ pub const FOUND: [&str; 34] = [
     "roster.specs.Laws.Loaded.fill_process",
     "steps.specs.Laws.Refused.accepted_is_no_refusal",
     "transit.specs.Laws.Loads.empty_none",
+    "transit.specs.Laws.Sent.counted_kept",
     "transit.proofs.Laws.Oldest.oldest_start",
     "transit.proofs.Laws.Search.walk_over",
 ];

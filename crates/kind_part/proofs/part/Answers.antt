@@ -8,5 +8,6 @@ returns c = λ ok.
     let ranks = ranks_of c.args.desk.now.roster in
     let read = c.relabel_between-to_first.ensures in
     let both = c.relabel_between-to_second.ensures in
+    let before = unread c.args.desk.now.mail in
     rw (c.widened.ensures, c.widened-2.ensures)
-    (part_done c.args.a c.args.b c.requires.apart (unread c.args.desk.now.mail) ranks read.all read.moved both.all both.moved c.connect_both.ensures.same)
+    (part_done c.args.a c.args.b c.requires.apart before ranks read.all read.moved both.all both.moved c.connect_both.ensures.same)

@@ -1,8 +1,7 @@
 -- Nothing at the input's end, and else the line of what stands there.
-use Rattle.std.proofs.Common.{ap, sym, append-nil, add-zero, arith}
-use Rattle.print_page.specs.Laws.Put.{reads, untouched}
+use Rattle.std.proofs.Common.{append-nil, add-zero, arith}
+use Rattle.print_page.specs.Laws.Put.{untouched}
 use Rattle.print_run.proofs.Laws.Ending.{closing_at_end, closing_by_kind}
-use Rattle.print_run.specs.Printed.{lines_of}
 use Rattle.print_ending.proofs.closing_line.Goals as goal
 
 pub returns-in_default : goal.returns-in_default

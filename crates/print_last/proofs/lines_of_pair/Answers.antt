@@ -1,5 +1,5 @@
 -- Nothing where the pair has nothing unread.
-use Rattle.std.proofs.Common.{[], sym, ◌∙◌, refl, arith}
+use Rattle.std.proofs.Common.{[], sym, ◌∙◌}
 use Rattle.transit.specs.Mail.{messages_in}
 use Rattle.print_page.specs.Laws.Put.{untouched}
 use Rattle.print_lines.specs.Laws.Parts.{no_line}

@@ -1,4 +1,4 @@
-use Rattle.std.proofs.Common.{sym, arith}
+use Rattle.std.proofs.Common.{arith}
 use Rattle.print_page.specs.Laws.Put.{◌and◌, reads}
 use Rattle.print_page.specs.Laws.Text.{numbers_more}
 use Rattle.print_number.proofs.put_numbers.Goals as goal

@@ -84,7 +84,9 @@ at_front {page = page} {text = text} p room =
 module _ {page : Page} where
   infixl 20 ◌and◌
   -- Two texts in a row are put as one.
-  pub ◌and◌ : {m n : ℕ} {s t : List ℕ} {next after : Page} → Writes m page s next → Writes n next t after → Writes (m + n) page (s ++ t) after
+  pub ◌and◌ :
+      {m n : ℕ} {s t : List ℕ} {next after : Page} →
+      Writes m page s next → Writes n next t after → Writes (m + n) page (s ++ t) after
   ◌and◌ p q = record { same = q.same ∙ p.same; put = p.put then q.put }
 
   -- The text may be said otherwise, and a bound may be any that is no less.

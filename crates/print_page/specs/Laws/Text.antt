@@ -15,7 +15,9 @@ numbers_append [] ys = refl
 numbers_append (x ∷ xs) ys = rw (append_assoc, numbers_append xs ys)
 
 -- One number more stands behind those before it.
-pub numbers_more : (ns : List ℕ) (i : ℕ) → i < length ns → numbers (take i ns) ++ (space ∷ decimal (get_or ns i 0)) ≡ numbers (take (i + 1) ns)
+pub numbers_more :
+    (ns : List ℕ) (i : ℕ) → i < length ns →
+    numbers (take i ns) ++ (space ∷ decimal (get_or ns i 0)) ≡ numbers (take (i + 1) ns)
 numbers_more ns i h =
     let last = get_or ns i 0 ∷ [] in
     rw (take_more ns i 0 h, ← numbers_append (take i ns) last, append-nil) refl

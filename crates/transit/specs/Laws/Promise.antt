@@ -1,7 +1,7 @@
 -- What each routine over the slots makes of the unread messages, as the definitions have it: the promise to the layers above.
 -- Assumes nothing.
 use Rattle.std.specs.Prelude.{Some, ◌≡◌, refl, true, List, [], ◌∷◌, ◌++◌, map, ℕ, ◌+◌, ◌<◌, length}
-use Rattle.std.proofs.Common.{◌∙◌, arith, length-append}
+use Rattle.std.proofs.Common.{arith, length-append}
 use Rattle.std.proofs.lemmas.List.{length-map}
 use Rattle.base.specs.Laws.Lists.{length_change_first}
 use Rattle.transit.specs.Laws.Operations.{appends, relabels, relabels_first}

@@ -1,4 +1,4 @@
-use Rattle.std.proofs.Common.{arith, ap, ◌∙◌}
+use Rattle.std.proofs.Common.{arith, ap}
 use Rattle.transit.specs.Laws.Columns.{tail_is}
 use Rattle.transit.specs.Laws.Mail.{ranked_in}
 use Rattle.transit.specs.Unread.{Unread}

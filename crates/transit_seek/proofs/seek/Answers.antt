@@ -1,5 +1,5 @@
 use Rattle.std.proofs.Common.{arith}
-use Rattle.transit.proofs.Laws.Search.{walk_first, walk_on, walk_next, walk_there, walk_over}
+use Rattle.transit.proofs.Laws.Search.{walk_first, walk_on, walk_next, walk_there}
 use Rattle.transit_seek.proofs.seek.Goals as goal
 
 pub loop-at-init : goal.loop-at-init
