@@ -62,7 +62,7 @@ fn step_by_lending(mut broker: Broker, log: &[u8], at: usize) -> Outcome
 {
     let reply = step_lent(&mut broker, log, at);
     Outcome {
-        broker: broker,
+        broker,
         answer: reply.answer,
         next: reply.next,
     }

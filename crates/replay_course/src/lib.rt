@@ -26,8 +26,8 @@ pub fn take_turn(before: Stage, buffer: &mut [u8], page: &mut [u8], desk: &mut D
     Stage {
         held: turned.held,
         base: turned.base,
-        done: done,
+        done,
         used: turned.used,
-        then: then,
+        then,
     }
 }
