@@ -1,9 +1,9 @@
 -- Laws of lists under a Boolean test: of the elements that pass, of the list without the first of them, and of the list with some changed.
 -- Assumes nothing.
-use Rattle.std.specs.Prelude.{◌≡◌, refl, Bool, true, false, ◌&&◌, not, ℕ, zero, suc, ◌+◌, ◌<◌, ◌≤◌, length, get_or}
+use Rattle.std.specs.Prelude.{◌≡◌, refl, Bool, true, false, ◌&&◌, not, ℕ, zero, suc, ◌+◌, ◌<◌, ◌≤◌, length, get_or, take, drop}
 use Rattle.std.proofs.Math.Bool.{and_assoc}
 use mathlib.Core.List.{List, [], ◌∷◌, ◌++◌, map, head-eq_of_cons-eq}
-use Rattle.std.proofs.Common.{arith, length-append}
+use Rattle.std.proofs.Common.{add-one, arith, length-append, length-take, drop-cons, get_or-take}
 use Rattle.std.proofs.lemmas.Bool.{not-true}
 use Rattle.base.specs.Lists.{select, tally, without, change_first, change_each, every}
 use Rattle.base.specs.Laws.Tests.{by_test, both, both_left, both_right, not_both}
@@ -84,6 +84,10 @@ module _ {A : Type 0} where
   every_at p [] i d all inside = absurd (omega arith)
   every_at p (x ∷ l) zero d all inside = both_left (p x) _ all
   every_at p (x ∷ l) (suc i) d all inside = every_at p l i d (both_right (p x) _ all) (omega arith)
+
+  -- What is left from an index of the first n elements is the one there and what is left from the next.
+  pub read_slot : (n : ℕ) (l : List A) (i : ℕ) (d : A) → i < length (take n l) → drop i (take n l) ≡ get_or l i d ∷ drop (i + 1) (take n l)
+  read_slot n l i d held = rw (add-one, drop-cons (take n l) i d, get_or-take n l i d (omega (arith, length-take n l)))
 
   -- Where none passes, none is selected.
   pub select_none : (p : A → Bool) (l : List A) → every (λ x. not (p x)) l ≡ true → select p l ≡ []

@@ -1,8 +1,8 @@
 -- A test at every rank and at every pair of ranks, taken at one and put together from each; and what a change made for each rank
 -- keeps. Assumes nothing.
-use Rattle.std.specs.Prelude.{◌≡◌, Bool, true, not, ◌<◌, eqb}
+use Rattle.std.specs.Prelude.{◌≡◌, Bool, true, false, not, ◌<◌, eqb}
 use Rattle.base.specs.Below.{all_below}
-use Rattle.base.specs.Laws.Below.{all_below_at, all_below_of, all_pass, each_below_keeps}
+use Rattle.base.specs.Laws.Below.{all_below_at, all_below_of, all_below_fails, all_pass, each_below_keeps}
 use Rattle.transit.specs.declared.Rank.{Rank}
 use Rattle.transit.specs.Message.{rank, ranks}
 use Rattle.broker.specs.Ranks.{every_rank, every_pair, count_ranks, each_rank}
@@ -14,6 +14,11 @@ every_rank_at f h r b = all_below_at ranks (λ n. f (rank n)) h r.0 b
 pub every_rank_of : (f : Rank → Bool) → ((r : Rank) → r.0 < ranks → f r ≡ true) → every_rank f ≡ true
 unfolding every_rank
 every_rank_of f h = all_below_of ranks (λ n. f (rank n)) (λ k b. h (rank k) b)
+
+-- where one fails, not all pass
+pub every_rank_fails : (f : Rank → Bool) (r : Rank) → r.0 < ranks → f r ≡ false → every_rank f ≡ false
+unfolding every_rank
+every_rank_fails f r b fails = all_below_fails ranks (λ n. f (rank n)) r.0 b fails
 
 -- all pass exactly where the count of those that do not is 0
 pub every_rank_counts : (f : Rank → Bool) → every_rank f ≡ eqb (count_ranks (λ p. not (f p))) 0

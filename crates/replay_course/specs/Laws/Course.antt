@@ -162,7 +162,7 @@ module _ {at : Stage} {s : State} {buffer page : List ℕ} (x : Runs at s buffer
         near = x.near;
       }
   by_given (Some (suc n)) f =
-      let count = given_within got lent (suc n) f in
+      let count = given_within at got lent (suc n) f refl in
       record {
         holds = stands_filled at.held buffer reading buffer' (suc n) same (omega arith) (omega (arith, long, x.long.0));
         long = (long ∙ x.long.0, x.long.1);

@@ -1,5 +1,5 @@
 -- Laws of what a read gave. Assumes nothing.
-use Rattle.std.specs.Prelude.{false, ◌≡◌, refl, ℕ, zero, suc, ◌+◌, ◌≤◌, min, Some, None, Result, Ok, Err}
+use Rattle.std.specs.Prelude.{false, ◌≡◌, refl, ℕ, zero, suc, ◌+◌, ◌≤◌, ◌<◌, min, Some, None, Result, Ok, Err}
 use Rattle.std.proofs.Common.{arith}
 use Rattle.replay_stage.specs.Stage.{given_of, taken_in}
 use Rattle.replay_stage.specs.declared.Stage.{Stage}
@@ -19,7 +19,14 @@ pub given_bytes : (at : Stage) (n : ℕ) → (n ≡ 0 → ⊥) → taken_in at (
 given_bytes at zero some = absurd (some refl)
 given_bytes at (suc n) some = refl
 
--- So many are given at most as were lent.
-pub given_within : {E : Type 0} (got : Result ℕ E) (lent n : ℕ) → given_of got lent ≡ Some n → n ≤ lent
-given_within (Ok count) lent n e = let all : min count lent ≡ n = cc in omega arith
-given_within (Err why) lent n e = let z : ◌≡◌ {A = ℕ} 0 1 = cc in absurd (omega arith)
+-- So many are given at most as were lent,
+pub given_at_most : {E : Type 0} (got : Result ℕ E) (lent n : ℕ) → given_of got lent ≡ Some n → n ≤ lent
+given_at_most (Ok count) lent n e = let all : min count lent ≡ n = cc in omega arith
+given_at_most (Err why) lent n e = let z : ◌≡◌ {A = ℕ} 0 1 = cc in absurd (omega arith)
+
+-- and one at least where the input goes on.
+pub given_within :
+    {E : Type 0} (at : Stage) (got : Result ℕ E) (lent n : ℕ) → given_of got lent ≡ Some n → (taken_in at (Some n)).done ≡ false →
+    (0 < n) × (n ≤ lent)
+given_within at got lent zero e goes_on = absurd cc
+given_within at got lent (suc n) e goes_on = (omega arith, given_at_most got lent (suc n) e)

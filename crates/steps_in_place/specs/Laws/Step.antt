@@ -3,8 +3,10 @@ use Rattle.std.specs.Prelude.{◌≡◌, List, ℕ, Ok, Err}
 use Rattle.record.specs.Record.{decode}
 use Rattle.broker.specs.State.{State}
 use Rattle.protocol.specs.Step.{Settlement, Outcome, settle, step_sound, refused}
+use Rattle.answer.specs.declared.Refusal.TheVariants.{UnknownKind, CutShort}
 use Rattle.record.specs.Refused.{refusal_of}
 use Rattle.record.specs.declared.Fault.{Fault}
+use Rattle.record.specs.declared.Fault.TheVariants.{Unknown, Cut}
 use Rattle.record.specs.declared.Record.{Record}
 
 module _ (s : State) (log : List ℕ) (at : ℕ) where
@@ -19,3 +21,9 @@ module _ (s : State) (log : List ℕ) (at : ℕ) where
   pub on_fault : (fault : Fault) → decode log at ≡ Err fault → refused (refusal_of fault) at s ≡ step_sound s log at
   unfolding step_sound
   on_fault fault e = rw e
+
+  pub on_unknown : decode log at ≡ Err Unknown → refused UnknownKind at s ≡ step_sound s log at
+  on_unknown e = on_fault Unknown e
+
+  pub on_cut : decode log at ≡ Err Cut → refused CutShort at s ≡ step_sound s log at
+  on_cut e = on_fault Cut e

@@ -19,7 +19,7 @@ module _ (c : Columns) (r : ℕ) where
 
   module _ {senders at : ℕ} (o : Oldest c r senders at) where
     -- The next pair's first slot is before the others.
-    oldest_less : get_or c.first (ranks * senders + r) 0 < at → Oldest c r (senders + 1) (get_or c.first (ranks * senders + r) 0)
+    pub oldest_less : get_or c.first (ranks * senders + r) 0 < at → Oldest c r (senders + 1) (get_or c.first (ranks * senders + r) 0)
     oldest_less less = record {
       least = λ s h. by_equal s senders (λ e. rw e (omega arith)) (λ ne. omega (arith, o.least s (omega (arith, ne))));
       from = λ _. (senders, omega arith, refl);
@@ -27,7 +27,7 @@ module _ (c : Columns) (r : ℕ) where
     }
 
     -- It is not.
-    oldest_kept : at ≤ get_or c.first (ranks * senders + r) 0 → Oldest c r (senders + 1) at
+    pub oldest_kept : at ≤ get_or c.first (ranks * senders + r) 0 → Oldest c r (senders + 1) at
     oldest_kept kept = record {
       least = λ s h. by_equal s senders (λ e. rw e kept) (λ ne. o.least s (omega (arith, ne)));
       from = λ h. let f = o.from h in (f.0, omega (arith, f.1), f.2);

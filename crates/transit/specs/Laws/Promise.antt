@@ -8,7 +8,7 @@ use Rattle.transit.specs.Laws.Operations.{appends, relabels, relabels_first}
 use Rattle.transit.specs.Laws.Removed.{removed_sent_first}
 use Rattle.base.specs.Lists.{select, tally, without, never_falls}
 use Rattle.transit.specs.Columns.{sent_in}
-use Rattle.transit.specs.Mail.{messages_in, unread_in, Appended, Relabelled, FirstRelabelled}
+use Rattle.transit.specs.Mail.{messages_in, unread_in, Appended, Left, Relabelled, FirstRelabelled}
 use Rattle.transit.specs.Message.{place_index, between}
 use Rattle.transit.specs.Unread.{
   Unread,
@@ -60,3 +60,12 @@ module _ (a b : Rank) (u : Unread) where
           → removed (Between a b) u ≡ record { found = head l; unread = counted u.sent (without (between a b) u.messages) }
       at [] e h = absurd (omega arith)
       at (m ∷ l) e h = removed_sent_first (Between a b) u m l rises e
+
+module _ {slots contents slots' : List ℕ} where
+  -- the same of the slots
+  pub left_unread : {a b : Rank} {m : Message} {rest : ℕ} → Left a b slots contents m rest slots'
+      → 0 < tally (between a b) (messages_in slots contents)
+      → never_falls (map place_index (select (between a b) (messages_in slots contents))) ≡ true
+      → removed (Between a b) (unread_in slots contents)
+      ≡ record { found = Some m; unread = unread_in slots' contents }
+  left_unread {a} {b} x some rises = rw x.same (first_removed a b (unread_in slots contents) x.found some rises)

@@ -1,7 +1,7 @@
 -- The counts sent behind the contents of the slots: a read and a store of them, and that the messages do not see them.
 -- Assumes nothing.
-use Rattle.std.specs.Prelude.{List, [], ◌++◌, ◌≡◌, ℕ, ◌+◌, ◌<◌, length, get_or, set, take, drop}
-use Rattle.std.proofs.Common.{sym, ap, ◌∙◌, arith, length-append, length-set, take_all, get_or-take}
+use Rattle.std.specs.Prelude.{List, [], ◌++◌, ◌≡◌, ℕ, ◌+◌, ◌<◌, ◌≤◌, length, get_or, set, take, drop}
+use Rattle.std.proofs.Common.{sym, ap, ◌∙◌, add-one, arith, length-append, length-set, take-suc, take-suc-set, take_all, get_or-take}
 use Rattle.std.proofs.Math.ListN.{length-drop}
 use Rattle.std.proofs.Math.Seq.{drop-set-lt, drop-set-add, get_or-drop}
 use Rattle.std.proofs.lemmas.List.{append-nil, drop_all, drop_at, length-take-le, take-set-le}
@@ -52,6 +52,33 @@ module _ (v : List ℕ) where
         counts = rw (sent_set p (get_or v (SENT + p) 0 + 1), sent_at_lem p);
         now = rw (sent_at_lem p);
       }
+
+-- One number more is copied.
+pub copy_next : (l m : List ℕ) (p : ℕ) → p < length l → p < length m → take p l ≡ take p m
+    → take (p + 1) (set l p (get_or m p 0)) ≡ take (p + 1) m
+copy_next l m p in_l in_m same = rw (add-one, take-suc-set l p (get_or m p 0) in_l, take-suc m p 0 in_m, same)
+
+-- The counts before p stand in the contents.
+pub record Keeping (counts contents : List ℕ) (p : ℕ) : Type 0 where
+  pub long : length contents ≡ contents_length
+  pub same : take p (sent_in contents) ≡ take p counts
+
+-- One count more does.
+pub keep_next : {counts v : List ℕ} {p : ℕ} → Keeping counts v p → length counts ≡ cells → p < cells
+    → Keeping counts (set v (SENT + p) (get_or counts p 0)) (p + 1)
+keep_next {counts} {v} {p} k size h = record {
+  long = length-set v (SENT + p) (get_or counts p 0) ∙ k.long;
+  same =
+      rw (sent_set v p (get_or counts p 0))
+      (copy_next (sent_in v) counts p (omega (arith, sent_long v k.long)) (omega arith) k.same);
+}
+
+-- All counts do.
+pub keep_all : {counts v : List ℕ} {p : ℕ} → Keeping counts v p → length counts ≡ cells → cells ≤ p → Kept counts v
+keep_all {counts} {v} {p} k size past = record {
+  long = k.long;
+  same = sym (take_all p (sent_in v) (omega (arith, sent_long v k.long))) ∙ k.same ∙ take_all p counts (omega arith);
+}
 
 -- Counts written behind the messages are the counts.
 pub kept_counts : (v l : List ℕ) → length v ≡ contents_length → length l ≡ cells → Kept l (take SENT v ++ (l ++ drop cells (drop SENT v)))
