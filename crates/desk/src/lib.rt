@@ -5,7 +5,7 @@ use roster::Roster;
 use transit::mail::Mail;
 
 // The unread messages, and what is known of the ranks.
-#[derive(Drop)]
+#[derive(Clone, Copy, PartialEq, Eq)]
 pub struct Desk {
     pub mail: Mail,
     pub roster: Roster,

@@ -4,7 +4,7 @@ ghost use Rattle.transit.specs.Mail.{IsMail};
 use crate::{Contents, Slots};
 
 // The two arrays, which hold the messages unread before and after each routine.
-#[derive(Drop)]
+#[derive(Clone, Copy, PartialEq, Eq)]
 pub struct Mail {
     pub slots: Slots,
     pub contents: Contents,
