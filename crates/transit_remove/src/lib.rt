@@ -20,6 +20,7 @@ pub fn remove(a: Rank, b: Rank, mail: &mut Mail) -> (Message, Count)
     ensures first { first_sent (Selection.Between a b) (unread mail.old) ≡ Some result.0 }
     ensures rest { unread mail.new ≡ counted (sent mail.old) (without (between a b) (messages mail.old)) }
     ensures left { result.1 ≡ tally (between a b) (messages mail.new) }
+    ensures contents { mail.new.contents ≡ mail.old.contents }
 {
     let pair = pair_of(a, b);
     let at = usize::from(mail.slots[FIRST + pair]);

@@ -2,6 +2,7 @@
 #![tactic(auto)]
 
 ghost use Rattle.std.specs.Prelude.{◌≡◌, ◌<◌};
+ghost use Rattle.transit.specs.Columns.{sent_in};
 ghost use Rattle.transit.specs.InPlace.{sent};
 ghost use Rattle.transit.specs.Message.{ranks};
 ghost use Rattle.transit.specs.Sent.{Counted, Kept};
@@ -12,12 +13,12 @@ use transit::mail::Mail;
 use transit::{CELLS, Contents, RANKS, Rank, Sequence};
 
 // How many messages `a` has sent to `b`.
-pub fn sent_between(a: Rank, b: Rank, mail: &Mail) -> Sequence
-    ensures { result ≡ sent_at a b (sent mail.now) }
+pub fn sent_between(a: Rank, b: Rank, contents: &Contents) -> Sequence
+    ensures { result ≡ sent_at a b (sent_in contents.now) }
 {
     let pair = RANKS * usize::from(a.0) + usize::from(b.0);
     if pair < CELLS {
-        return mail.contents[SENT + pair];
+        return contents[SENT + pair];
     }
     0
 }

@@ -1,4 +1,4 @@
-use Rattle.std.proofs.Common.{◌+◌, set}
+use Rattle.std.proofs.Common.{refl, ◌+◌, set}
 use Rattle.transit.specs.Columns.{columns_of, PLACES}
 use Rattle.transit.specs.Mail.{FirstRelabelled}
 use Rattle.transit.specs.Message.{place_number, pair_of}
@@ -34,12 +34,19 @@ invariant_of-mail c =
 pub returns-then-at-lt-SLOTS : goal.returns-then-at-lt-SLOTS
 returns-then-at-lt-SLOTS c =
     let at = goal.at.returns-then-at-lt-SLOTS c in
-    first_relabelled_unread (changed at.After-from-then-at-lt-SLOTS (reached at.After-seek-at))
+    record {
+      first = first_relabelled_unread (changed at.After-from-then-at-lt-SLOTS (reached at.After-seek-at));
+      contents = refl;
+    }
 
 pub returns-else-at-lt-SLOTS : goal.returns-else-at-lt-SLOTS
 returns-else-at-lt-SLOTS c =
     let a = c.args in
     let r = c.requires in
     let there = reached (goal.at.returns-else-at-lt-SLOTS c).After-seek-at in
-    first_relabelled_unread
-    (first_unchanged a.mail.now.kept a.a a.b r.a_lt_ranks r.b_lt_ranks a.from there a.to c.if-at-lt-SLOTS.false)
+    record {
+      first =
+          first_relabelled_unread
+          (first_unchanged a.mail.now.kept a.a a.b r.a_lt_ranks r.b_lt_ranks a.from there a.to c.if-at-lt-SLOTS.false);
+      contents = refl;
+    }

@@ -1,4 +1,4 @@
-use Rattle.std.proofs.Common.{◌+◌, ◌-◌, ◌<◌, ◌≤◌, get_or, set, ap, arith}
+use Rattle.std.proofs.Common.{refl, ◌+◌, ◌-◌, ◌<◌, ◌≤◌, get_or, set, ap, arith}
 use Rattle.transit.specs.Columns.{sent_in, NEXT, FIRST, COUNT, UNREAD, SLOTS, DEAD}
 use Rattle.transit.specs.Mail.{Left}
 use Rattle.transit.specs.Unread.{counted}
@@ -56,4 +56,4 @@ invariant_of-mail c = record { kept = (left (goal.at.invariant_of-mail c).After-
 pub returns : goal.returns
 returns c =
     let l = left (goal.at.returns c).After-message_at-message in
-    record { first = l.found; rest = ap (counted (sent_in c.args.mail.now.contents)) l.same; left = l.pair }
+    record { first = l.found; rest = ap (counted (sent_in c.args.mail.now.contents)) l.same; left = l.pair; contents = refl }
