@@ -10,4 +10,4 @@ loop-s-preserved c =
     let a = c.args in
     let s = c.loop-s.s in
     let first = first_at a.slots.now (ranks * s + a.r) (omega arith) in
-    rw (c.min-best.ensures, ← first) (oldest_next (columns_of a.slots.now) a.r c.loop-s.invariant)
+    rw c.min-best.ensures (rw first at (oldest_next (columns_of a.slots.now) a.r c.loop-s.invariant))
