@@ -93,8 +93,8 @@ fn load_drawn(drawn: [u16; 8], roster: &mut Roster)
 }
 
 // All of a state by value but its messages.
-pub fn load(broker: Broker, roster: &mut Roster)
-    ensures { Holds roster.new (with_unread nothing (view broker)) }
+pub fn load(broker: &Broker, roster: &mut Roster)
+    ensures { Holds roster.new (with_unread nothing (view broker.now)) }
 {
     let processes = broker.processes;
     let locations = broker.locations;

@@ -10,7 +10,7 @@ ghost use Rattle.steps.specs.Outcome.{outcome, RefusalKeeps};
 use answer::{Answer, Refusal};
 use broker::state::Broker;
 use steps_in_place::{Reply, step_in_place};
-use steps_load::{load, unload};
+use steps_load::{fresh, load_into, unload};
 
 // All of a step's outcome: the state afterwards, the answer, and the next position.
 #[derive(Clone, Copy)]
@@ -27,13 +27,14 @@ pub fn step(broker: Broker, log: &[u8], at: usize) -> Outcome
     ensures refused_unchanged { RefusalKeeps result.answer broker result.broker }
     ensures never_eighteen { NeverEighteen result.answer }
 {
-    let Some(mut desk) = load(broker) else {
+    let mut desk = fresh();
+    if !load_into(broker, &mut desk) {
         return Outcome {
             broker,
             answer: Err(Refusal::Unsound),
             next: at,
         };
-    };
+    }
     let Reply { answer, next } = step_in_place(log, at, &mut desk);
     match answer {
         Err(_) => Outcome {

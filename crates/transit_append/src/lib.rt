@@ -11,7 +11,7 @@ ghost use Rattle.transit.specs.Unread.{appended, limit, sent_at, most_sent};
 use transit::layout::{NONE, TAIL};
 use transit::mail::Mail;
 use transit::{Count, Message, Place, Rank, Value};
-use transit_load::{load, unload};
+use transit_load::{load_into, unload};
 use transit_put::put;
 use transit_sent::count_one;
 
@@ -24,7 +24,8 @@ fn make_room(mail: &mut Mail)
     if mail.slots[TAIL] < NONE {
         return;
     }
-    *mail = load(unload(mail));
+    let packed = unload(mail);
+    load_into(&packed, mail);
 }
 
 // A message from `a` to `b` is unread, behind all others; how many of its pair are unread then.

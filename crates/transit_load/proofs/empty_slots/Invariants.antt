@@ -1,7 +1,7 @@
 -- The loops' invariants: the slots before `i` are dead; the pairs before `p` have none. Assumes nothing.
 use Rattle.transit.specs.Columns.{SLOTS}
 use Rattle.transit.specs.Laws.Loads.{Emptied}
-use Rattle.transit_load.proofs.empty.Given as goal
+use Rattle.transit_load.proofs.empty_slots.Given as goal
 
 abbrev pub invariant-loop-i : goal.invariant-loop-i
 invariant-loop-i l = Emptied l.slots l.i 0

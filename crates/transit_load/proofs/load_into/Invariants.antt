@@ -3,7 +3,7 @@ use Rattle.std.proofs.Common.{◌≡◌, take}
 use Rattle.transit.specs.Columns.{columns_of}
 use Rattle.transit.specs.InPlace.{messages, sent}
 use Rattle.transit.specs.Unread.{unread_of}
-use Rattle.transit_load.proofs.load.Given as goal
+use Rattle.transit_load.proofs.load_into.Given as goal
 
 abbrev pub invariant-loop-i : goal.invariant-loop-i
 invariant-loop-i l = record {
