@@ -2,6 +2,7 @@
 -- Paper 01, "Names and places" and "What the contracts carry". Assumes nothing.
 use Rattle.std.specs.Prelude.{true, ◌≡◌, ⊤, Result}
 use Rattle.transit.specs.InPlace.{unread}
+use Rattle.transit.specs.Unread.{Unread}
 use Rattle.protocol.specs.Checks.{refusal}
 use Rattle.protocol.specs.Done.{Done}
 use Rattle.protocol.specs.Sound.{sound}
@@ -24,6 +25,11 @@ Judges r s v = verdict_of v ≡ refusal s r
 -- the values and the state afterwards are those of the definition
 abbrev pub Does : (State → Done) → State → Values → State → Type 0
 Does f s v s' = record { state = s'; values = v } ≡ f s
+
+-- a change that needs no messages: the definition's whatever is unread, sound or not, and the messages are as they were
+pub record RosterDoes (f : State → Done) (d : Desk) (v : Values) (d' : Desk) : Type 0 where
+  pub does : (u : Unread) → Does f (with_unread u (ranks_of d.roster)) v (with_unread u (ranks_of d'.roster))
+  pub mail : d'.mail ≡ d.mail
 
 -- where the desk was sound, the values and the state afterwards are those of the definition
 abbrev pub DeskDoes : (State → Done) → Desk → Values → Desk → Type 0

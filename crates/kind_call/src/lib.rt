@@ -3,7 +3,7 @@
 
 ghost use Rattle.protocol.specs.Connect.{call};
 ghost use Rattle.record.specs.declared.Record.{Record};
-ghost use Rattle.desk.specs.Desk.{DeskDoes, Judges, state_of};
+ghost use Rattle.desk.specs.Desk.{Judges, RosterDoes, state_of};
 
 use answer::{Refusal, Values};
 use broker::process::Request;
@@ -30,7 +30,7 @@ pub fn call_verdict(a: Rank, b: Rank, desk: &Desk) -> Verdict
 // `a`'s call opens, posted to its entry for `b`.
 #[tactic(auto, unfolding(protocol::specs::Connect::call))]
 pub fn call(a: Rank, b: Rank, desk: &mut Desk) -> Values
-    ensures { DeskDoes (call a b) desk.old result desk.new }
+    ensures { RosterDoes (call a b) desk.old result desk.new }
 {
     let vmid = location_of(a, b, &desk.roster);
     set_request(a, Some(Request { to: b, vmid }), &mut desk.roster);

@@ -3,7 +3,7 @@
 
 ghost use Rattle.protocol.specs.Life.{end};
 ghost use Rattle.record.specs.declared.Record.{Record};
-ghost use Rattle.desk.specs.Desk.{DeskDoes, Judges, state_of};
+ghost use Rattle.desk.specs.Desk.{Judges, RosterDoes, state_of};
 
 use answer::{Refusal, Values};
 use broker::process::Status;
@@ -33,7 +33,7 @@ pub fn end_verdict(r: Rank, desk: &Desk) -> Verdict
 // `r` is ended, and keeps its last vmid.
 #[tactic(auto, unfolding(protocol::specs::Life::end))]
 pub fn end(r: Rank, desk: &mut Desk) -> Values
-    ensures { DeskDoes (end r) desk.old result desk.new }
+    ensures { RosterDoes (end r) desk.old result desk.new }
 {
     let last = standing_of(r, &desk.roster).endpoint();
     set_standing(r, Status::Ended(last), &mut desk.roster);

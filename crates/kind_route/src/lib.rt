@@ -4,7 +4,7 @@
 ghost use Rattle.protocol.specs.Connect.{withdraw, route_there, route_on, route};
 ghost use Rattle.record.specs.declared.Record.{Record};
 ghost use Rattle.roster.specs.Roster.{ranks_of, Holds};
-ghost use Rattle.desk.specs.Desk.{DeskDoes, Judges, state_of};
+ghost use Rattle.desk.specs.Desk.{Judges, RosterDoes, state_of};
 
 use answer::{Refusal, Values};
 use broker::link::Connection;
@@ -38,7 +38,7 @@ fn withdraw(a: Rank, b: Rank, roster: &mut Roster)
 
 // The call was posted to the current end: a plain line stands both ways, and calls between the two close.
 fn route_there(a: Rank, b: Rank, end: Vmid, desk: &mut Desk) -> Values
-    ensures { DeskDoes (route_there a b end) desk.old result desk.new }
+    ensures { RosterDoes (route_there a b end) desk.old result desk.new }
 {
     connect_both(a, b, Connection::Open, &mut desk.roster);
     withdraw(a, b, &mut desk.roster);
@@ -48,7 +48,7 @@ fn route_there(a: Rank, b: Rank, end: Vmid, desk: &mut Desk) -> Values
 
 // It was not: the entry and the call go to the current end.
 fn route_on(a: Rank, b: Rank, end: Vmid, desk: &mut Desk) -> Values
-    ensures { DeskDoes (route_on a b end) desk.old result desk.new }
+    ensures { RosterDoes (route_on a b end) desk.old result desk.new }
 {
     set_location(a, b, end, &mut desk.roster);
     set_request(a, Some(Request { to: b, vmid: end }), &mut desk.roster);
@@ -58,7 +58,7 @@ fn route_on(a: Rank, b: Rank, end: Vmid, desk: &mut Desk) -> Values
 // What becomes of `a`'s call to `b`.
 #[tactic(auto, unfolding(protocol::specs::Connect::route))]
 pub fn route(a: Rank, b: Rank, desk: &mut Desk) -> Values
-    ensures { DeskDoes (route a b) desk.old result desk.new }
+    ensures { RosterDoes (route a b) desk.old result desk.new }
 {
     let request = request_of(a, &desk.roster);
     let standing = standing_of(b, &desk.roster);

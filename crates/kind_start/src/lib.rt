@@ -6,7 +6,7 @@ ghost use Rattle.protocol.specs.Life.{start};
 ghost use Rattle.broker.specs.Names.{numbers};
 ghost use Rattle.broker.specs.State.{drawn_on};
 ghost use Rattle.record.specs.declared.Record.{Record};
-ghost use Rattle.desk.specs.Desk.{state_of, DeskDoes, Judges};
+ghost use Rattle.desk.specs.Desk.{state_of, Judges, RosterDoes};
 
 use answer::{Refusal, Values};
 use broker::process::{Status, Vmid};
@@ -33,7 +33,7 @@ pub fn start_verdict(r: Rank, host: u8, desk: &Desk) -> Verdict
 #[tactic(auto, unfolding(protocol::specs::Life::start))]
 pub fn start(r: Rank, host: u8, desk: &mut Desk) -> Values
     requires { drawn_on (state_of desk.old) host < numbers }
-    ensures { DeskDoes (start r host) desk.old result desk.new }
+    ensures { RosterDoes (start r host) desk.old result desk.new }
 {
     let number = drawn_on(host, &desk.roster) + 1;
     let vmid = Vmid(host, number);
