@@ -1,11 +1,11 @@
 // Drain: its checks in the paper's order, and what it does where none applies. Paper 01, "The step log", kind 08.
 #![tactic(auto)]
 
-ghost use Rattle.std.specs.Prelude.{◌<◌};
+ghost use Rattle.std.specs.Prelude.{◌≡◌, ◌<◌};
 ghost use Rattle.transit.specs.Message.{ranks};
 ghost use Rattle.protocol.specs.Migrate.{drain};
 ghost use Rattle.record.specs.declared.Record.{Record};
-ghost use Rattle.desk.specs.Desk.{state_of, DeskDoes, Judges};
+ghost use Rattle.desk.specs.Desk.{state_of, Does, Judges};
 
 use answer::{Refusal, Values};
 use broker::link::Backlog;
@@ -37,7 +37,8 @@ pub fn drain_verdict(r: Rank, p: Rank, desk: &Desk) -> Verdict
 #[tactic(auto, using(crate::specs::Laws::Done::drain_marker))]
 pub fn drain(r: Rank, p: Rank, desk: &mut Desk) -> Values
     requires { (r.0 < ranks) × (p.0 < ranks) }
-    ensures { DeskDoes (drain r p) desk.old result desk.new }
+    ensures does { Does (drain r p) (state_of desk.old) result (state_of desk.new) }
+    ensures contents { desk.new.mail.contents ≡ desk.old.mail.contents }
 {
     let mail = &mut desk.mail;
     match first_at(p, r, Place::SourceChannel, mail) {

@@ -1,11 +1,11 @@
 // Heed: its checks in the paper's order, and what it does where none applies. Paper 01, "The step log", kind 07.
 #![tactic(auto)]
 
-ghost use Rattle.std.specs.Prelude.{◌<◌};
+ghost use Rattle.std.specs.Prelude.{◌≡◌, ◌<◌};
 ghost use Rattle.transit.specs.Message.{ranks};
 ghost use Rattle.protocol.specs.Migrate.{heed};
 ghost use Rattle.record.specs.declared.Record.{Record};
-ghost use Rattle.desk.specs.Desk.{state_of, DeskDoes, Judges};
+ghost use Rattle.desk.specs.Desk.{state_of, Does, Judges};
 
 use answer::{Refusal, Values, widened};
 use broker::link::{Backlog, Connection};
@@ -13,7 +13,7 @@ use desk::Desk;
 use roster_read::{link_between, standing_of};
 use roster_write::{awaiting, connect};
 use transit::{Place, Rank};
-use transit_relabel::relabel_between;
+use transit_relabel::relabel_mail_between;
 use verdict::{Verdict, refuse_if, two_ranks};
 
 #[tactic(auto, using(crate::specs::Laws::Judged::by_tests))]
@@ -31,9 +31,10 @@ pub fn heed_verdict(b: Rank, r: Rank, desk: &Desk) -> Verdict
 // `b` reads what is on its channel from `r`, and closes its side with an end marker.
 pub fn heed(b: Rank, r: Rank, desk: &mut Desk) -> Values
     requires { (b.0 < ranks) × (r.0 < ranks) }
-    ensures { DeskDoes (heed b r) desk.old result desk.new }
+    ensures does { Does (heed b r) (state_of desk.old) result (state_of desk.new) }
+    ensures contents { desk.new.mail.contents ≡ desk.old.mail.contents }
 {
-    let moved = relabel_between(r, b, Place::Channel, Place::EndList, &mut desk.mail);
+    let moved = relabel_mail_between(r, b, Place::Channel, Place::EndList, &mut desk.mail);
     connect(b, r, Connection::Closed, &mut desk.roster);
     awaiting(r, b, Backlog::Marked, &mut desk.roster);
     Values(widened(moved), 0, 0)

@@ -1,9 +1,13 @@
 // Look: its checks in the paper's order, and what it does where none applies. Paper 01, "The step log", kind 0C; paper 02, change 6.
 #![tactic(auto)]
 
+ghost use Rattle.std.specs.Prelude.{List, ℕ};
+ghost use Rattle.transit.specs.InPlace.{unread};
 ghost use Rattle.protocol.specs.Messages.{look};
+ghost use Rattle.broker.specs.State.{with_unread};
 ghost use Rattle.record.specs.declared.Record.{Record};
-ghost use Rattle.desk.specs.Desk.{DeskDoes, Judges, state_of};
+ghost use Rattle.roster.specs.Roster.{ranks_of};
+ghost use Rattle.desk.specs.Desk.{Does, Judges, state_of};
 
 use answer::{Refusal, Values};
 use desk::Desk;
@@ -23,10 +27,10 @@ pub fn look_verdict(r: Rank, desk: &Desk) -> Verdict
     refuse_if(found.is_none(), Refusal::NothingUnread)
 }
 
-// The rank named is the sender of the message that was sent first of all those unread by `r`.
+// The rank named is the sender of the message that was sent first of all those unread by `r`, whatever is known of the ranks.
 #[tactic(auto, unfolding(protocol::specs::Messages::look))]
 pub fn look(r: Rank, desk: &Desk) -> Values
-    ensures { DeskDoes (look r) desk.now result desk.now }
+    ensures { (roster : List ℕ) → let s = with_unread (unread desk.now.mail) (ranks_of roster) in Does (look r) s result s }
 {
     let found = first_to(r, &desk.mail);
     let sender = found.map_or(Rank(0), |m| m.sender);

@@ -7,7 +7,7 @@ ghost use Rattle.transit.specs.Message.{ranks};
 ghost use Rattle.transit.specs.Unread.{limit, sent_at, most_sent};
 ghost use Rattle.protocol.specs.Messages.{place_over, send};
 ghost use Rattle.record.specs.declared.Record.{Record};
-ghost use Rattle.desk.specs.Desk.{state_of, DeskDoes, Judges};
+ghost use Rattle.desk.specs.Desk.{state_of, Does, Judges};
 
 use answer::{Refusal, Values, widened};
 use broker::link::Connection;
@@ -31,7 +31,7 @@ pub fn send_verdict(a: Rank, b: Rank, desk: &Desk) -> Verdict
     refuse_if(link.connection.is_closed(), Refusal::NotConnected)?;
     let unread = unread(&desk.mail.slots);
     refuse_if(Transit::LIMIT <= unread, Refusal::Full)?;
-    let sent = sent_between(a, b, &desk.mail);
+    let sent = sent_between(a, b, &desk.mail.contents);
     refuse_if(Transit::MOST_SENT <= sent, Refusal::SequenceSpent)
 }
 
@@ -51,7 +51,8 @@ pub fn send(a: Rank, b: Rank, value: Value, desk: &mut Desk) -> Values
     requires a_lt_ranks { (a.0 < ranks) × (b.0 < ranks) }
     requires contents_len_bound { length (messages desk.old.mail) < limit }
     requires contents_bound { sent_at a b (sent desk.old.mail) < most_sent }
-    ensures { DeskDoes (send a b value) desk.old result desk.new }
+    ensures does { Does (send a b value) (state_of desk.old) result (state_of desk.new) }
+    ensures roster { desk.new.roster ≡ desk.old.roster }
 {
     let place = place_over(link_between(a, b, &desk.roster).connection);
     let pair = append(a, b, place, value, &mut desk.mail);

@@ -9,12 +9,12 @@ use Rattle.roster.specs.Roster.{ranks_of}
 use Rattle.kind_land.specs.Laws.Done.{land_done}
 use Rattle.kind_land.proofs.land.Goals as goal
 
-pub returns : goal.returns
-returns c = λ ok.
+pub returns-clause-does : goal.returns-clause-does
+returns-clause-does c =
     let d = c.args.desk.now in
     let ranks = ranks_of d.roster in
     let target = c.endpoint-target.ensures ∙ ap endpoint c.standing_of.ensures in
     let runs = c.set_standing.ensures.same ∙ ap (λ (v : Vmid). with_status c.args.r (Running v) ranks) target in
-    let after = c.relabel_to.new.mail in
+    let after = c.relabel_mail_to.new.mail in
     rw c.widened.ensures
-    (land_done ranks (unread d.mail) c.args.r c.relabel_to.ensures.all runs (c.count_to-listed.ensures after.contents after.kept))
+    (land_done ranks (unread d.mail) c.args.r c.relabel_mail_to.ensures.all runs (c.count_to-listed.ensures after.contents after.kept))
