@@ -1,8 +1,8 @@
 // What a move leaves behind: its lines, and the messages of the source process. Paper 01, "The step log", kind 06.
 #![tactic(auto)]
 
-ghost use Rattle.std.specs.Prelude.{◌≡◌, ◌<◌};
-ghost use Rattle.transit.specs.InPlace.{unread};
+ghost use Rattle.std.specs.Prelude.{List, ◌≡◌, ℕ, ◌<◌};
+ghost use Rattle.transit.specs.Mail.{IsMail, unread_in};
 ghost use Rattle.transit.specs.Message.{ranks};
 ghost use Rattle.protocol.specs.Migrate.{leave, leave_all, left_behind};
 ghost use Rattle.broker.specs.State.{with_links};
@@ -12,8 +12,7 @@ use broker::link::{Backlog, Connection, Link};
 use roster::Roster;
 use roster_read::link_between;
 use roster_write::{awaiting, connect, set_link};
-use transit::mail::Mail;
-use transit::{Place, Rank};
+use transit::{Place, Rank, Slots};
 use transit_relabel::relabel_to;
 
 // What `r`'s move does between `r` and `p`.
@@ -54,10 +53,12 @@ pub fn leave_all(r: Rank, roster: &mut Roster)
 }
 
 // The messages to `r` stay with its source process.
-pub fn leave_behind(r: Rank, mail: &mut Mail)
+pub fn leave_behind(r: Rank, slots: &mut Slots)
     requires { r.0 < ranks }
-    ensures { unread mail.new ≡ left_behind r (unread mail.old) }
+    ensures kept { (contents : List ℕ) → IsMail slots.old contents → IsMail slots.new contents }
+    ensures left { (contents : List ℕ) → IsMail slots.old contents
+        → unread_in slots.new contents ≡ left_behind r (unread_in slots.old contents) }
 {
-    relabel_to(r, Place::EndList, Place::SourceList, mail);
-    relabel_to(r, Place::Channel, Place::SourceChannel, mail);
+    relabel_to(r, Place::EndList, Place::SourceList, slots);
+    relabel_to(r, Place::Channel, Place::SourceChannel, slots);
 }

@@ -23,7 +23,10 @@ pub fn apply(read: Record, desk: &mut Desk) -> Values
         Record::Route(a, b) => kind_route::route(a, b, desk),
         Record::Send(a, b, value) => kind_send::send(a, b, value, desk),
         Record::Take(b, a) => kind_take::take(b, a, desk),
-        Record::Move(r, host) => kind_move::move_to(r, host, desk),
+        Record::Move(r, host) => {
+            let mail = &mut desk.mail;
+            kind_move::move_to(r, host, &mut mail.slots, &mut desk.roster)
+        }
         Record::Heed(b, r) => kind_heed::heed(b, r, desk),
         Record::Drain(r, p) => kind_drain::drain(r, p, desk),
         Record::Land(r) => kind_land::land(r, desk),

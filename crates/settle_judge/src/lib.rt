@@ -17,7 +17,7 @@ pub fn judge(read: Record, desk: &Desk) -> Verdict
         Record::Route(a, b) => kind_route::route_verdict(a, b, desk),
         Record::Send(a, b, _) => kind_send::send_verdict(a, b, desk),
         Record::Take(b, a) => kind_take::take_verdict(b, a, desk),
-        Record::Move(r, host) => kind_move::move_verdict(r, host, desk),
+        Record::Move(r, host) => kind_move::move_verdict(r, host, &desk.roster),
         Record::Heed(b, r) => kind_heed::heed_verdict(b, r, desk),
         Record::Drain(r, p) => kind_drain::drain_verdict(r, p, desk),
         Record::Land(r) => kind_land::land_verdict(r, desk),
