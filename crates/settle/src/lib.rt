@@ -9,6 +9,7 @@ use record::Record;
 use settle_apply::apply;
 use settle_judge::judge;
 
+#[tactic(auto, unfolding(protocol::specs::Step::settle))]
 pub fn settle(read: Record, desk: &mut Desk) -> Answer
     ensures { Settles read desk.old result desk.new }
 {
