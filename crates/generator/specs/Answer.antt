@@ -1,6 +1,6 @@
 -- What a maker of a log answers, and what it leaves in the buffer. Paper 02, change 1: "The answer is the bytes written; the buffer beyond
 -- them is untouched. Checks: 26 for seed zero, then 27 for a buffer shorter than 7 times n bytes; neither writes a byte." Assumes nothing.
-use Rattle.std.specs.Prelude.{cond, List, ◌++◌, ℕ, ◌*◌, eqb, ltb, length, drop, Result, Ok, Err}
+use Rattle.std.specs.Prelude.{cond, List, [], ◌++◌, ℕ, ◌*◌, eqb, ltb, length, drop, Result, Ok, Err}
 use Rattle.generator_record.specs.MadeUp.{longest, made_log, log_leaves}
 use Rattle.generator.specs.declared.Unmade.{Unmade}
 use Rattle.generator.specs.declared.Unmade.TheVariants.{SeedZero, TooShort}
@@ -30,6 +30,10 @@ Made = Result (ℕ × Word) Unmade
 abbrev pub outcome : Made → List ℕ → Outcome
 outcome (Ok made) buffer = record { number = 0; bytes = made.0; word = made.1.0; buffer = buffer }
 outcome (Err why) buffer = refuses (number why) buffer
+
+-- the number alone
+abbrev pub number_of : Made → ℕ
+number_of made = (outcome made []).number
 
 -- "The answer is the bytes written; the buffer beyond them is untouched."
 abbrev pub writes : List ℕ → ℕ → List ℕ → Outcome

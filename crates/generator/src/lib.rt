@@ -3,7 +3,7 @@
 
 ghost use Rattle.std.specs.Prelude.{◌≡◌, ◌*◌, ◌≤◌, length};
 ghost use Rattle.print_page.specs.Put.{Put};
-ghost use Rattle.generator.specs.Answer.{number, outcome, makes};
+ghost use Rattle.generator.specs.Answer.{number, number_of, outcome, makes};
 ghost use Rattle.generator_record.specs.MadeUp.{longest, made_log, log_leaves};
 
 use generator_record::{Progress, put_record};
@@ -31,6 +31,16 @@ impl Unmade {
 
 // What a maker of a log answers: the bytes written, and the word that they leave.
 pub type Made = Result<(usize, Word), Unmade>;
+
+// 0 where a log was written, else the refusal's number.
+pub fn number_of(made: Made) -> u8
+    ensures { result ≡ number_of made }
+{
+    match made {
+        Ok(_) => 0,
+        Err(why) => why.number(),
+    }
+}
 
 // The most bytes that a record takes.
 const LONGEST: usize = 7;

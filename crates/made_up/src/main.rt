@@ -9,7 +9,7 @@ ghost use Rattle.made_up_pass.specs.Piece.{piece_room};
 mod given;
 
 use given::{ARGUMENT_LENGTH, BUFFER_LENGTH, argument_count, take_argument};
-use made_up_pass::{Ending, next_of, next_piece, no_piece, put_ending};
+use made_up_pass::{Ending, bytes_of, next_of, next_piece, no_piece, put_ending};
 use made_up_plan::{COUNT_AT, SEED_AT, plan_of};
 use made_up_problem::put_problem;
 use std::ops::ControlFlow;
@@ -21,10 +21,12 @@ fn write_pass(rt: &impl Print, seed: u32, count: u64, buffer: &mut [u8]) -> Endi
 {
     let mut piece = no_piece(seed, count);
     loop {
-        piece = next_piece(piece, buffer)?;
-        let written = rt.write_all(&buffer[..piece.bytes]).is_ok();
-        match next_of(piece, written) {
-            ControlFlow::Continue(()) => {}
+        let made = next_piece(piece, buffer);
+        let written = rt.write_all(&buffer[..bytes_of(made)]).is_ok();
+        match next_of(made, written) {
+            ControlFlow::Continue(next) => {
+                piece = next;
+            }
             ControlFlow::Break(ending) => {
                 return ending;
             }

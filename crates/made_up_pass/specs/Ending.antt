@@ -16,19 +16,19 @@ use Rattle.made_up_pass.specs.declared.Stop.TheVariants.{Refused, Unwritten}
 abbrev pub Ending : Type 0
 Ending = Result (Unit {0}) Stop
 
--- the next piece is made, or the writing ends so
+-- the next piece is made, from this one on, or the writing ends so
 abbrev pub Next : Type 0
-Next = ControlFlow Ending (Unit {0})
+Next = ControlFlow Ending Piece
 
 -- what is next behind a piece, of which all was written or not: a refusal comes before a failed write, and the pass is whole where no
 -- record is left
 abbrev pub next_of : Result Piece Unmade → Bool → Next
-next_of (Ok p) written = cond written (cond (eqb p.left 0) (Break (Ok tt)) (Continue tt)) (Break (Err Unwritten))
+next_of (Ok p) written = cond written (cond (eqb p.left 0) (Break (Ok tt)) (Continue p)) (Break (Err Unwritten))
 next_of (Err why) written = Break (Err (Refused why))
 
 -- why that is next
 abbrev pub Because : Result Piece Unmade → Bool → Next → Type 0
-Because (Ok p) written (Continue again) = (written ≡ true) × (p.left ≢ 0)
+Because (Ok p) written (Continue next) = (next ≡ p) × (written ≡ true) × (p.left ≢ 0)
 Because (Ok p) written (Break (Ok whole)) = (written ≡ true) × (p.left ≡ 0)
 Because (Ok p) written (Break (Err (Refused why))) = ⊥
 Because (Ok p) written (Break (Err Unwritten)) = written ≡ false

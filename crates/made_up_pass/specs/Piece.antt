@@ -26,6 +26,11 @@ abbrev pub outcome_of : Result Piece Unmade → List ℕ → Outcome
 outcome_of (Ok p) buffer = record { number = 0; bytes = p.bytes; word = p.word.0; buffer = buffer }
 outcome_of (Err why) buffer = record { number = number why; bytes = 0; word = 0; buffer = buffer }
 
+-- how many bytes of the buffer are to be handed to the output: of a refused piece none
+abbrev pub bytes_of : Result Piece Unmade → ℕ
+bytes_of (Ok p) = p.bytes
+bytes_of (Err why) = 0
+
 -- the piece is made as the generator makes so many records, and the others are left
 pub record Pieced (word left : ℕ) (buffer : List ℕ) (piece : Result Piece Unmade) (after : List ℕ) : Type 0 where
   pub made : outcome_of piece after ≡ makes word (piece_records left) buffer

@@ -1,9 +1,9 @@
 // A made-up pass, made piece by piece in one buffer: all that the program decides that writes it. Paper 02, change 1.
 #![tactic(auto)]
 
-ghost use Rattle.std.specs.Prelude.{◌≡◌, ◌≤◌, length, Ok};
+ghost use Rattle.std.specs.Prelude.{◌≡◌, ◌≤◌, length};
 ghost use Rattle.made_up_pass.specs.Ending.{next_of, Told, ending_room, ending_words};
-ghost use Rattle.made_up_pass.specs.Piece.{no_piece, piece_records, piece_room, Pieced};
+ghost use Rattle.made_up_pass.specs.Piece.{no_piece, bytes_of, piece_records, piece_room, Pieced};
 ghost use Rattle.made_up_pass.specs.declared.Stop.TheVariants.{Refused};
 ghost use Rattle.print_page.specs.Put.{Put};
 
@@ -52,6 +52,16 @@ pub fn next_piece(before: Piece, buffer: &mut [u8]) -> Result<Piece, Unmade>
     Ok(Piece { bytes, word, left })
 }
 
+// How many bytes of the buffer are to be handed to the output: those of a piece that is made, and none of a refused one.
+pub fn bytes_of(made: Result<Piece, Unmade>) -> usize
+    ensures { result ≡ bytes_of made }
+{
+    match made {
+        Ok(piece) => piece.bytes,
+        Err(_) => 0,
+    }
+}
+
 // Why the writing of a pass stops before all of it is written.
 #[derive(Clone, Copy, PartialEq, Eq)]
 pub enum Stop {
@@ -72,17 +82,22 @@ impl From<Unmade> for Stop {
 // How the writing of a pass ends: all of it is written, or it stops.
 pub type Ending = Result<(), Stop>;
 
-// What is next when a piece was handed to the output, which took all of it or not: the next piece, or the end.
-pub fn next_of(piece: Piece, written: bool) -> ControlFlow<Ending>
-    ensures { result ≡ next_of (Ok piece) written }
+// What is next when a piece was made or refused, and its bytes were handed to the output, which took all of them or not: the piece to go
+// on from, or the end. A refusal comes before a failed write.
+pub fn next_of(made: Result<Piece, Unmade>, written: bool) -> ControlFlow<Ending, Piece>
+    ensures { result ≡ next_of made written }
 {
+    let piece = match made {
+        Ok(piece) => piece,
+        Err(why) => return ControlFlow::Break(Err(Stop::from(why))),
+    };
     if !written {
         return ControlFlow::Break(Err(Stop::Unwritten));
     }
     if piece.left == 0 {
         return ControlFlow::Break(Ok(()));
     }
-    ControlFlow::Continue(())
+    ControlFlow::Continue(piece)
 }
 
 // What is said of an ending, at a page's front: nothing where all went well.

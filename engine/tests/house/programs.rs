@@ -8,10 +8,10 @@ use crate::tree::Source;
 const PROGRAMS: [&str; 2] = ["crates/made_up/src/main.rt", "crates/replay/src/main.rt"];
 
 /// What stands in no program: a test, a comparison, a sum, a truth of its own,
-/// a loop with a condition.
-const DECISIONS: [&str; 18] = [
+/// a loop with a condition, a way out by `?`.
+const DECISIONS: [&str; 19] = [
     "if ", "else", "while ", "for ", "break", "continue", "true", "false", "==", "<", ">", "+",
-    "-", "*", "/", "%", "!", "|",
+    "-", "*", "/", "%", "!", "|", "?",
 ];
 
 #[test]
@@ -83,6 +83,7 @@ mod tests {
         assert_eq!(found("let wrote = true;"), 1);
         assert_eq!(found("while more(stage) {"), 1);
         assert_eq!(found("return; } return;"), 1);
+        assert_eq!(found("piece = next_piece(piece, buffer)?;"), 1);
         assert_eq!(found("let mut slots = [0u16; SLOTS_LENGTH];"), 0);
         assert_eq!(found("Then::Turn => {"), 0);
     }

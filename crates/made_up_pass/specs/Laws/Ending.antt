@@ -2,7 +2,7 @@
 use Rattle.std.specs.Prelude.{Bool, List, ◌≢◌, ◌≡◌, refl, ℕ, ◌≤◌, ◌<◌, length, Result, Ok, Err}
 use Rattle.std.proofs.Common.{ap, ◌∙◌, arith, eq-eqb, ne_eqb}
 use Rattle.base.specs.Laws.Tests.{by_test, by_equal}
-use Rattle.std.specs.declared.ops.ControlFlow.TheVariants.{Break}
+use Rattle.std.specs.declared.ops.ControlFlow.TheVariants.{Continue, Break}
 use Rattle.generator.specs.Answer.{Outcome, number}
 use Rattle.generator.specs.declared.Unmade.{Unmade}
 use Rattle.generator.specs.declared.Unmade.TheVariants.{SeedZero, TooShort}
@@ -10,7 +10,7 @@ use Rattle.generator_draw.specs.Draw.{words}
 use Rattle.generator.specs.Laws.Answer.{is_written}
 use Rattle.generator.specs.Laws.MadeUp.{IsWord, leaves_word}
 use Rattle.made_up_pass.specs.Course.Course.{begun, further}
-use Rattle.made_up_pass.specs.Course.{Course}
+use Rattle.made_up_pass.specs.Course.{Course, Stands}
 use Rattle.made_up_pass.specs.Ending.{Ending, next_of, Because, Ends, Told}
 use Rattle.made_up_pass.specs.Laws.Course.{course_ends}
 use Rattle.made_up_pass.specs.Laws.Piece.{piece_records_lem, piece_word}
@@ -61,9 +61,17 @@ module _ {seed count : ℕ} where
 pub because : (piece : Result Piece Unmade) (written : Bool) → Because piece written (next_of piece written)
 because (Ok p) written =
     by_test written
-    (λ all. rw all (by_equal p.left 0 (λ none. rw (eq-eqb p.left 0 none) (refl, none)) (λ more. rw (ne_eqb p.left 0 more) (refl, more))))
+    (λ all. rw all (by_equal p.left 0 (λ none. rw (eq-eqb p.left 0 none) (refl, none))
+    (λ more. rw (ne_eqb p.left 0 more) (refl, refl, more))))
     (λ short. rw short refl)
 because (Err why) written = refl
+
+-- Where the next piece is made, the program stands behind the one before it in the course of its pass: a refused piece is no such one.
+pub goes_on : {seed count word left : ℕ} {written buffer after : List ℕ} → Course seed count word left written →
+    (piece : Result Piece Unmade) → Pieced word left buffer piece after → (done : Bool) (next : Piece) →
+    Because piece done (Continue next) → Stands seed count next.word.0 next.left
+goes_on course (Ok p) pieced done next why = rw why.0 (record { written = _; course = further pieced course })
+goes_on course (Err why) pieced done next is = cc
 
 -- A pass whose seed is a word ends as it may end.
 module _ {seed count word left : ℕ} {written buffer after : List ℕ} (within : seed < words)

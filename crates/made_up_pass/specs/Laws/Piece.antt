@@ -1,12 +1,13 @@
 -- Laws of a piece: how many records it has, and that it is the next part of the log. Assumes nothing.
-use Rattle.std.specs.Prelude.{◌≡◌, List, ◌≢◌, ℕ, ◌*◌, ◌≤◌, ◌<◌, length, take, Ok}
+use Rattle.std.specs.Prelude.{◌≡◌, List, ◌≢◌, ℕ, ◌*◌, ◌≤◌, ◌<◌, length, take, Result, Ok, Err}
 use Rattle.std.proofs.Common.{sym, ap, ◌∙◌, arith, lt-ltb, le-ltb}
 use Rattle.base.specs.Laws.Tests.{by_equal, by_less}
 use Rattle.generator.specs.Answer.{Outcome, makes}
 use Rattle.generator.specs.Laws.Answer.{too_short, is_written, written, what_is_written}
 use Rattle.generator.specs.Laws.MadeUp.{log_within}
+use Rattle.generator.specs.declared.Unmade.{Unmade}
 use Rattle.generator_record.specs.MadeUp.{longest, made_log, log_leaves}
-use Rattle.made_up_pass.specs.Piece.{piece_most, piece_room, piece_records, Pieced}
+use Rattle.made_up_pass.specs.Piece.{piece_most, piece_room, piece_records, bytes_of, Pieced}
 use Rattle.made_up_pass.specs.declared.Piece.{Piece}
 
 -- A piece has no more records than are left and than fit, and at least one where any is left.
@@ -50,3 +51,9 @@ piece_fits {word} {left} {buffer} {p = p} pieced =
     (λ some. by_less (length buffer) (longest * n)
     (λ h. let none : p.bytes ≡ 0 = bytes ∙ rw (too_short word n buffer some h) in omega arith)
     (λ h. let all : p.bytes ≡ length (made_log n word) = bytes ∙ rw (is_written word n buffer some h) in omega arith))
+
+-- So do the bytes that are handed to the output: of a refused piece there are none.
+pub bytes_fit : {word left : ℕ} {buffer after : List ℕ} {piece : Result Piece Unmade} → Pieced word left buffer piece after →
+    bytes_of piece ≤ piece_room
+bytes_fit {piece = Ok p} pieced = piece_fits pieced
+bytes_fit {piece = Err why} pieced = omega arith

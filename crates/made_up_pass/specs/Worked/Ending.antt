@@ -29,7 +29,7 @@ pub good_not_refused : Ends 1 1 (Err (Refused SeedZero)) → ⊥
 good_not_refused ends = let seed = ends.1 in omega arith
 
 -- a piece that was written, with a record left and with none
-pub one_left : next_of (Ok (eight_bytes 1)) true ≡ Continue tt
+pub one_left : next_of (Ok (eight_bytes 1)) true ≡ Continue (eight_bytes 1)
 one_left = refl
 
 pub none_left : next_of (Ok (eight_bytes 0)) true ≡ Break (Ok tt)
@@ -50,8 +50,8 @@ refusal_said = refl
 pub unwritten_not_whole : Because (Ok (eight_bytes 0)) false (Break (Ok tt)) → ⊥
 unwritten_not_whole why = true≢false (sym why.0)
 
-pub unwritten_not_again : Because (Ok (eight_bytes 1)) false (Continue tt) → ⊥
-unwritten_not_again why = true≢false (sym why.0)
+pub unwritten_not_again : (next : Piece) → Because (Ok (eight_bytes 1)) false (Continue next) → ⊥
+unwritten_not_again next why = true≢false (sym why.1)
 
 pub written_no_fault : Because (Ok (eight_bytes 0)) true (Break (Err Unwritten)) → ⊥
 written_no_fault why = true≢false why
