@@ -17,6 +17,18 @@ digit d = cond (ltb d 10) (48 + d) (55 + d)
 abbrev pub hex : ℕ → List ℕ
 hex n = digit (n / 16) ∷ digit (n % 16) ∷ []
 
+-- a number below 100 in two decimal digits
+abbrev pub two_digits : ℕ → List ℕ
+two_digits n = (48 + n / 10) ∷ (48 + n % 10) ∷ []
+
+-- a number below 10^4 in four decimal digits
+abbrev pub four_digits : ℕ → List ℕ
+four_digits n = two_digits (n / 100) ++ two_digits (n % 100)
+
+-- a number below 10^8 in eight decimal digits
+abbrev pub eight_digits : ℕ → List ℕ
+eight_digits n = four_digits (n / 10000) ++ four_digits (n % 10000)
+
 -- "decimal": one digit, or the digits of a tenth and then the last one; there are no more digits than the first number says
 abbrev pub decimal_within : ℕ → ℕ → List ℕ
 decimal_within zero n = []

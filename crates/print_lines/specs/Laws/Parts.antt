@@ -1,9 +1,10 @@
 -- The lines as they are put on a page, part after part. Assumes nothing.
 use Rattle.std.specs.Prelude.{◌≡◌, refl, List, [], ◌∷◌, ◌++◌, ℕ, length, get_or, Result}
-use Rattle.std.proofs.Common.{ap, arith, eq-eqb, ne_eqb}
+use Rattle.std.proofs.Common.{ap, ◌∙◌, append_assoc, arith, eq-eqb, ne_eqb}
 use Rattle.base.specs.Lists.{tally}
 use Rattle.transit.specs.Message.{between, rank}
 use Rattle.transit.specs.declared.Message.{Message}
+use Rattle.print_page.specs.Laws.Text.{numbers_append}
 use Rattle.print_page.specs.Text.{decimal, hex, newline, numbers, space}
 use Rattle.answer.specs.Answer.{number, values}
 use Rattle.answer.specs.declared.Values.{Values}
@@ -27,10 +28,18 @@ four_of (a ∷ []) e = absurd (omega (arith, e))
 four_of [] e = absurd (omega (arith, e))
 
 -- A pair's line is the word, the two ranks, the counts and the line's end.
-pub pair_parts : (a b : ℕ) (ns : List ℕ) → length ns ≡ 4 →
+pub pair_parts : (a b : ℕ) (ns : List ℕ) → pair_word ++ numbers (a ∷ b ∷ []) ++ numbers ns ++ (newline ∷ []) ≡ pair_line a b ns
+unfolding pair_line
+pair_parts a b ns =
+    let ranks = a ∷ b ∷ [] in
+    ap (λ (t : List ℕ). t ++ (newline ∷ []))
+    (append_assoc pair_word (numbers ranks) (numbers ns) ∙ ap (λ (t : List ℕ). pair_word ++ t) (numbers_append ranks ns))
+
+-- Of four counts, read one by one, it is these six numbers.
+pub pair_of_four : (a b : ℕ) (ns : List ℕ) → length ns ≡ 4 →
     pair_word ++ numbers (a ∷ b ∷ get_or ns 0 0 ∷ get_or ns 1 0 ∷ get_or ns 2 0 ∷ get_or ns 3 0 ∷ []) ++ (newline ∷ []) ≡ pair_line a b ns
 unfolding pair_line
-pair_parts a b ns e = ap (λ l. pair_word ++ numbers (a ∷ b ∷ l) ++ (newline ∷ [])) (four_of ns e)
+pair_of_four a b ns e = ap (λ l. pair_word ++ numbers (a ∷ b ∷ l) ++ (newline ∷ [])) (four_of ns e)
 
 module _ (l : List Message) (a b : ℕ) where
   -- A pair with nothing unread has no line.

@@ -7,8 +7,10 @@ use Rattle.std.proofs.Common.{
   take-append-drop,
   drop-drop,
   zero-add,
+  add-one,
   arith,
   length-append,
+  length-set,
   take_at,
   length-take-le,
 }
@@ -41,6 +43,10 @@ module _ {page : List ℕ} {used : ℕ} where
   -- No text leaves the page as it was.
   pub nothing : Put 0 page used [] page used
   nothing = record { holds = refl; ends = omega arith; within = omega arith; room = refl }
+
+  -- Two bytes, one stored behind the other, are a text of two.
+  pub two_bytes : {a b x y : ℕ} → a ≡ x → b ≡ y → Put 2 page used (x ∷ y ∷ []) (set (set page used a) (used + 1) b) (used + 2)
+  two_bytes e f = record { holds = rw (e, f, add-one); ends = refl; within = omega arith; room = rw (length-set, length-set) }
 
   -- A text that is copied behind what is used is put.
   pub copied : (text : List ℕ) {k : ℕ} → k ≡ length text → used + length text ≤ length page →
