@@ -4,7 +4,7 @@
 use answer::number_of;
 use broker::state::Broker;
 use std::io;
-use std::io::Cursor;
+use std::io::{Cursor, Read};
 use steps::step;
 
 // The numbers of an answer: 0 where the step is accepted, and the refusals up to 28.
@@ -17,7 +17,7 @@ const ROOM: usize = 65536;
 // that.
 fn main(rt: HostRuntime) -> io::Result<()> {
     let mut room = Cursor::new([0u8; ROOM]);
-    let _ = io::copy(&mut rt.stdin(), &mut room);
+    let _ = io::copy(&mut rt.stdin().take(ROOM as u64), &mut room);
     let end = (room.position() as usize).min(ROOM);
     let log = &room.get_ref()[..end];
     if end == ROOM {

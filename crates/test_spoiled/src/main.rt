@@ -11,7 +11,7 @@ mod word;
 use broker::state::Broker;
 use change::changed;
 use std::io;
-use std::io::Cursor;
+use std::io::{Cursor, Read};
 use tell::tell;
 use word::{Word, word_of};
 
@@ -46,7 +46,7 @@ fn read_list(rt: &impl Print, text: &[u8]) -> io::Result<()> {
 
 fn main(rt: HostRuntime) -> io::Result<()> {
     let mut room = Cursor::new([0u8; ROOM]);
-    let _ = io::copy(&mut rt.stdin(), &mut room);
+    let _ = io::copy(&mut rt.stdin().take(ROOM as u64), &mut room);
     let end = (room.position() as usize).min(ROOM);
     read_list(&rt, &room.get_ref()[..end])
 }

@@ -3,12 +3,18 @@
 // calls answered is added up and printed, so that none of them can be left out.
 #![tactic(auto)]
 
+ghost use Rattle.std.specs.Prelude.{◌≡◌};
+ghost use Rattle.answer.specs.Answer.{NeverEighteen};
+ghost use Rattle.broker.specs.State.{view};
+ghost use Rattle.protocol.specs.Step.{step};
+ghost use Rattle.steps.specs.Outcome.{outcome, RefusalKeeps};
+
 use answer::{Answer, number_of, values_of};
 use broker::state::Broker;
 use desk::Desk;
 use soundness::is_sound;
 use std::io;
-use std::io::Cursor;
+use std::io::{Cursor, Read};
 use steps::{Outcome, step};
 use steps_in_place::{Reply, step_in_place};
 use steps_lent::step_lent;
@@ -63,7 +69,11 @@ fn told(answer: Answer) -> u64 {
 }
 
 // A step by lending: the state is lent to the step, and then handed back.
-fn step_by_lending(mut broker: Broker, log: &[u8], at: usize) -> Outcome {
+fn step_by_lending(mut broker: Broker, log: &[u8], at: usize) -> Outcome
+    ensures result_value { outcome result ≡ step (view broker) log.now at }
+    ensures refused_unchanged { RefusalKeeps result.answer broker result.broker }
+    ensures never_eighteen { NeverEighteen result.answer }
+{
     let Reply { answer, next } = step_lent(&mut broker, log, at);
     Outcome {
         broker,
@@ -107,7 +117,7 @@ fn tests(broker: Broker, times: u32) -> u64 {
 // A byte that asks for none of the calls has only the log run.
 fn main(rt: HostRuntime) -> io::Result<()> {
     let mut room = Cursor::new([0u8; ROOM]);
-    let _ = io::copy(&mut rt.stdin(), &mut room);
+    let _ = io::copy(&mut rt.stdin().take(ROOM as u64), &mut room);
     let end = (room.position() as usize).min(ROOM);
     let [call, t0, t1, t2, t3, log @ ..] = &room.get_ref()[..end] else {
         return Ok(());
