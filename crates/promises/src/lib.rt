@@ -30,7 +30,7 @@ use soundness::is_sound;
 use steps::{Outcome, step};
 use steps_in_place::{Reply, step_in_place};
 use steps_lent::step_lent;
-use steps_load::{load, unload};
+use steps_load::{load, load_into, unload};
 
 // "A fresh desk has no rank started, no messages, no numbers drawn, and table entries 0.0 (host 0, number 0: unknown)."
 pub fn fresh_desk() -> Broker
@@ -98,6 +98,15 @@ pub fn state_into_place(broker: Broker) -> Option<Desk>
     ensures holds { (d : Desk) → result ≡ Some d → state_of d ≡ view broker }
 {
     load(broker)
+}
+
+// The same into a desk that is lent: whether the state is sound, and where it is the desk holds it; else the desk stays as it was.
+pub fn state_into_a_lent_desk(broker: Broker, desk: &mut Desk) -> bool
+    ensures tells { result ≡ sound (view broker) }
+    ensures holds { result ≡ true → state_of desk.new ≡ view broker }
+    ensures stays { result ≡ false → desk.new ≡ desk.old }
+{
+    load_into(broker, desk)
 }
 
 // The state that a desk holds, handed back.
