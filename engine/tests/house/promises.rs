@@ -2,11 +2,11 @@
 //! crates/promises/specs/Promises.antt; docs/PROMISES.md lists them, each with
 //! the laws that it cites, and the entries of the library with the functions
 //! that say in full what they promise; and it lists nothing else. A law that
-//! was a step of a proof which the check finds by itself is cited no more: such
-//! laws are listed in `found.rs`.
+//! was a step of a proof which the check finds by itself, or of code that is
+//! written otherwise now, is cited no more: such laws are listed in `found.rs`.
 
 use crate::citations::{antt_part, cited, known, paths, whole_name};
-use crate::found::FOUND;
+use crate::found::{FOUND, KEPT};
 use crate::imports::words_outside;
 use crate::laws::{laws, Law};
 use crate::table::tables;
@@ -165,7 +165,7 @@ fn uncited(laws: &[Public], listed: &[&str]) -> Vec<String> {
 #[test]
 fn every_public_law_is_cited() {
     let laws = public_laws(&sources(&[".antt", ".rt"]));
-    expect_none(&uncited(&laws, &FOUND));
+    expect_none(&uncited(&laws, &[&FOUND[..], &KEPT[..]].concat()));
 }
 
 #[test]
